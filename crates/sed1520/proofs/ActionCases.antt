@@ -1,0 +1,92 @@
+-- The actions of a chip by their cases, as equations.
+use Prim.Native.Nat.{ℕ, _+_, _<_, _≤_, zero-le}
+use mathlib.Core.Path.{_≡_, refl}
+use mathlib.Core.Bool.{Bool, true, false, _&&_, and-false}
+use mathlib.Core.List.{List}
+use mathlib.Core.Option.{none, some}
+use lib.Dec.{ltb, leb}
+use lib.ListN.{getD, set}
+use borrow.Author.Tests.{lt-ltb, le-ltb, le-leb}
+use Rattle.sed1520.specs.Choice.{if}
+use Rattle.sed1520.specs.Chip.{staled, withColumn, withLatch, withModify}
+use Rattle.sed1520.specs.Command.{decodeOf, within, toldCommand}
+use Rattle.sed1520.specs.Memory.{ramIndex}
+use Rattle.sed1520.specs.Cycle.{outcome, refusal, answered, execute, columnLocked, commandWrite, dataWrite, afterRead}
+use Rattle.sed1520.specs.declared.registers.Chip.{Chip}
+use Rattle.sed1520.specs.declared.registers.ReadLatch.the-variants.{Fresh}
+use Rattle.sed1520.specs.declared.commands.Kind.the-variants.{Modify, End}
+use Rattle.sed1520.specs.declared.commands.Command.{Command}
+use Rattle.sed1520.specs.declared.commands.Decoded.{Decoded}
+use Rattle.sed1520.specs.declared.commands.Decoded.the-variants.{Known, Unknown}
+
+-- what the cases of a decoded byte say
+pub known-command : (d : Decoded) (b : ℕ) (m : Command) → toldCommand d ≡ decodeOf b → d ≡ Known m → decodeOf b .value ≡ some m
+known-command d b m e k = rw (← e, k)
+
+pub no-command : (d : Decoded) (b at : ℕ) → toldCommand d ≡ decodeOf b → d ≡ Unknown at → decodeOf b .value ≡ none
+no-command d b at e k = rw (← e, k)
+
+-- the commands of read-modify-write, with the mode on and off
+module _ (c : Chip) where
+  module _ (on : c .modify ≡ true) where
+    pub modify-already : execute Modify 0 c ≡ c
+    unfolding execute
+    modify-already = rw on
+
+    pub end-modify : execute End 0 c ≡ staled (withModify false 0 (withColumn (c .«saved_column») c))
+    unfolding execute
+    end-modify = rw on
+
+  module _ (off : c .modify ≡ false) where
+    pub begin-modify : execute Modify 0 c ≡ withModify true (c .column) c
+    unfolding execute
+    begin-modify = rw off
+
+    pub end-idle : execute End 0 c ≡ c
+    unfolding execute
+    end-idle = rw off
+
+module _ (b : ℕ) (c : Chip) where
+  pub command-unknown : decodeOf b .value ≡ none → commandWrite b c ≡ refusal 7 c
+  unfolding commandWrite
+  command-unknown e = rw e
+
+  module _ (m : Command) (known : decodeOf b .value ≡ some m) where
+    pub command-locked : columnLocked b c ≡ true → commandWrite b c ≡ refusal 8 c
+    unfolding commandWrite
+    command-locked locked = rw (known, locked)
+
+    pub command-executed : columnLocked b c ≡ false → commandWrite b c ≡ answered 0 0 (execute (m .kind) (m .argument) c)
+    unfolding commandWrite
+    command-executed free = rw (known, free)
+
+  -- only a byte below 128 sets the column
+  pub locked-below : b < 128 → columnLocked b c ≡ c .modify
+  locked-below h = rw (le-leb 0 b zero-le, lt-ltb b 128 h)
+
+  pub unlocked-above : 128 ≤ b → columnLocked b c ≡ false
+  unlocked-above h = rw (le-ltb b 128 h, and-false (leb 0 b))
+
+module _ (c : Chip) (ram : List ℕ) where
+  module _ (room : c .column < 80) where
+    pub data-write-stored : (b : ℕ) → dataWrite b c ram ≡ outcome (answered 0 0 (withColumn (c .column + 1) c)) (set ram (ramIndex (c .page) (c .column)) b)
+    unfolding dataWrite
+    data-write-stored b = rw (lt-ltb (c .column) 80 room)
+
+    -- read-modify-write keeps the column
+    pub after-read-kept : c .modify ≡ true → afterRead c ram ≡ withLatch (Fresh (getD ram (ramIndex (c .page) (c .column)) 0)) c
+    unfolding afterRead
+    after-read-kept on = rw (lt-ltb (c .column) 80 room, on)
+
+    pub after-read-counted : c .modify ≡ false → afterRead c ram ≡ withLatch (Fresh (getD ram (ramIndex (c .page) (c .column)) 0)) (withColumn (c .column + 1) c)
+    unfolding afterRead
+    after-read-counted off = rw (lt-ltb (c .column) 80 room, off)
+
+  module _ (stopped : 80 ≤ c .column) where
+    pub data-write-stopped : (b : ℕ) → dataWrite b c ram ≡ outcome (answered 0 0 c) ram
+    unfolding dataWrite
+    data-write-stopped b = rw (le-ltb (c .column) 80 stopped)
+
+    pub after-read-stopped : afterRead c ram ≡ staled c
+    unfolding afterRead
+    after-read-stopped = rw (le-ltb (c .column) 80 stopped)

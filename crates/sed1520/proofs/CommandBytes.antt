@@ -1,0 +1,112 @@
+-- Laws of the rule between commands and bytes: what `among` gives is the same over a span of bytes in which no kind's range begins or ends, so a
+-- byte of a kind's range is told as that kind, and each way between commands and bytes undoes the other.
+use Prim.Native.Nat.{ℕ, _+_, _-_, _≤_, _<_}
+use native.Mathlib.Omega.{arith}
+use mathlib.Core.Path.{_≡_, refl, sym, ap, _∙_}
+use mathlib.Core.Bool.{Bool, true, false, _&&_, _||_, and-false, false≢true}
+use mathlib.Core.Logic.{⊎-elim}
+use mathlib.Core.List.{List, [], _∷_}
+use mathlib.Core.Option.{Option, none, some, Option·none-ne-some as none-ne-some, Option·some-injective as some-injective}
+use lib.Dec.{ltb, leb, eqb}
+use borrow.Author.Tests.{lt-ltb, le-ltb, le-leb, lt-leb, leb-true, ltb-true, eqb-true}
+use Rattle.sed1520.proofs.Tests.{tested, either, both}
+use Rattle.sed1520.specs.Choice.{if}
+use Rattle.sed1520.specs.Command.{first, count, kinds, within, among, commandOf, decodeOf, encodeOf, told, notTold}
+use Rattle.sed1520.specs.declared.commands.Kind.{Kind}
+use Rattle.sed1520.specs.declared.commands.Kind.the-variants.{Display, StartLine, Page, Column, Adc, Static, Duty, Modify, End, Reset}
+use Rattle.sed1520.specs.declared.commands.Command.{Command}
+
+-- no byte from lo to hi lies in the range of k
+abbrev pub apart : ℕ → ℕ → Kind → Bool
+apart lo hi k = ltb hi (first k) || leb (first k + count k) lo
+
+-- nor in the range of any kind listed
+abbrev pub apartFrom : ℕ → ℕ → List Kind → Bool
+apartFrom lo hi [] = true
+apartFrom lo hi (k ∷ ks) = apart lo hi k && apartFrom lo hi ks
+
+outside : (k : Kind) (lo hi b : ℕ) → lo ≤ b → b ≤ hi → (apart lo hi k) ≡ true → within k b ≡ false
+outside k lo hi b l h t =
+    ⊎-elim
+    (λ below. let p = ltb-true hi (first k) below in simp (lt-leb (first k) b (omega arith)))
+    (λ above. let p = leb-true (first k + count k) lo above in simp (le-ltb b (first k + count k) (omega arith), and-false))
+    (either (ltb hi (first k)) (leb (first k + count k) lo) t)
+
+pub none-between : (ks : List Kind) (lo hi b : ℕ) → lo ≤ b → b ≤ hi → (apartFrom lo hi ks) ≡ true → among ks b ≡ none
+unfolding among
+none-between [] lo hi b l h t = refl
+none-between (k ∷ ks) lo hi b l h t =
+    let p = both (apart lo hi k) (apartFrom lo hi ks) t in
+    rw (outside k lo hi b l h (p .0), none-between ks lo hi b l h (p .1))
+
+-- where the kind stands in the list, and no kind before it shares a byte with it
+abbrev reached : Kind → List Kind → Bool
+reached k [] = false
+reached k (j ∷ js) = eqb (first j) (first k) || (apart (first k) (first k + count k - 1) j && reached k js)
+
+reached-all : (k : Kind) → reached k kinds ≡ true
+reached-all Display = refl
+reached-all StartLine = refl
+reached-all Page = refl
+reached-all Column = refl
+reached-all Adc = refl
+reached-all Static = refl
+reached-all Duty = refl
+reached-all Modify = refl
+reached-all End = refl
+reached-all Reset = refl
+
+at-first : (k : Kind) → among kinds (first k) ≡ some k
+unfolding among
+at-first Display = refl
+at-first StartLine = refl
+at-first Page = refl
+at-first Column = refl
+at-first Adc = refl
+at-first Static = refl
+at-first Duty = refl
+at-first Modify = refl
+at-first End = refl
+at-first Reset = refl
+
+first-injective : (j k : Kind) → first j ≡ first k → j ≡ k
+first-injective j k e = cc (at-first j, at-first k, ap (among kinds) e)
+
+first-found : (k : Kind) (ks : List Kind) (b : ℕ) → first k ≤ b → b < first k + count k → (reached k ks) ≡ true → among ks b ≡ some k
+unfolding among
+first-found k [] b l h t = absurd (false≢true t)
+first-found k (j ∷ js) b l h t =
+    ⊎-elim
+    (λ same. let e = first-injective j k (eqb-true (first j) (first k) same) in rw (e, le-leb (first k) b l, lt-ltb b (first k + count k) h))
+    (λ later. let p = both (apart (first k) (first k + count k - 1) j) (reached k js) later in
+    rw (outside j (first k) (first k + count k - 1) b l (omega arith) (p .0), first-found k js b l h (p .1)))
+    (either (eqb (first j) (first k)) (apart (first k) (first k + count k - 1) j && reached k js) t)
+
+-- a byte of a kind's range is told as that kind
+pub kind-in-range : (k : Kind) (b : ℕ) → first k ≤ b → b < first k + count k → among kinds b ≡ some k
+kind-in-range k b l h = first-found k kinds b l h (reached-all k)
+
+-- and a byte is told as no other
+pub range-of-kind : (ks : List Kind) (k : Kind) (b : ℕ) → among ks b ≡ some k → (first k ≤ b) × (b < first k + count k)
+unfolding among
+range-of-kind [] k b e = absurd (none-ne-some k e)
+range-of-kind (j ∷ js) k b e =
+    ⊎-elim
+    (λ yes. let p = both (leb (first j) b) (ltb b (first j + count j)) yes in
+    let same = some-injective j k (rw yes at e) in
+    rw (← same) (leb-true (first j) b (p .0), ltb-true b (first j + count j) (p .1)))
+    (λ no. range-of-kind js k b (rw no at e))
+    (tested (within j b))
+
+-- every byte of a kind fits a byte
+pub range-below-256 : (k : Kind) → first k + count k ≤ 256
+range-below-256 Display = omega arith
+range-below-256 StartLine = omega arith
+range-below-256 Page = omega arith
+range-below-256 Column = omega arith
+range-below-256 Adc = omega arith
+range-below-256 Static = omega arith
+range-below-256 Duty = omega arith
+range-below-256 Modify = omega arith
+range-below-256 End = omega arith
+range-below-256 Reset = omega arith

@@ -1,0 +1,31 @@
+-- The examples, computed from the definitions.
+use mathlib.Core.Path.{refl}
+use Rattle.sed1520.specs.Chip.{inRange, fresh}
+use Rattle.sed1520.specs.Command.{among, decodeOf}
+use Rattle.sed1520.specs.Cycle.{execute, commandWrite, dataWrite, afterRead, dataRead, statusOf, actionOf, stepOf, cycleOf}
+use Rattle.sed1520.specs.Examples.{ranFrom, ChipExamples}
+
+pub chip-examples : ChipExamples
+unfolding ranFrom cycleOf stepOf actionOf commandWrite dataWrite dataRead afterRead statusOf execute decodeOf among inRange fresh
+chip-examples =
+    record {
+      p1-stored = refl;
+      p1-column = refl;
+      p2-nothing = refl;
+      p2-column = refl;
+      p3-nothing = refl;
+      p3-column = refl;
+      p4-fresh = refl;
+      p4-on-reverse = refl;
+      p6-counted = refl;
+      p6-returned = refl;
+      p7 = refl;
+      p10-80 = (refl, refl);
+      p10-ac = (refl, refl);
+      p10-bc = (refl, refl);
+      p10-e3 = (refl, refl);
+      p10-df = (refl, refl);
+      p11-0 = refl;
+      p11-6 = refl;
+      p11-8 = refl;
+    }

@@ -1,0 +1,10 @@
+pub mod ActionCases
+pub mod ChipRange
+pub mod CommandBytes
+pub mod CycleKeeps
+pub mod CycleLaws
+pub mod Examples
+pub mod OneRule
+pub mod PanelLaws
+pub mod StepCases
+pub mod Tests

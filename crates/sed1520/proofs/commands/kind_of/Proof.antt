@@ -1,0 +1,53 @@
+-- `sed1520::commands::kind_of` meets its contract: each arm's range is its kind's, and between two neighbouring ranges there is no kind.
+use Prim.Native.Nat.{ℕ, _≤_, _<_}
+use native.Mathlib.Omega.{arith}
+use mathlib.Core.Path.{_≡_, refl, sym}
+use mathlib.Core.Logic.{⊎-elim}
+use mathlib.Core.Option.{none}
+use lib.Dec.{ltb}
+use borrow.Author.Tests.{ltb-true, ltb-false}
+use Rattle.sed1520.specs.Command.{kinds, among}
+use Rattle.sed1520.specs.declared.commands.Kind.the-variants.{Display, StartLine, Page, Column, Adc, Static, Duty, Modify, End, Reset}
+use Rattle.sed1520.proofs.Tests.{tested}
+use Rattle.sed1520.proofs.CommandBytes.{kind-in-range, none-between}
+use Rattle.sed1520.proofs.commands.kind_of.Statement.{statement}
+use Rattle.sed1520.proofs.commands.kind_of.Tie as tie
+
+-- from 0xE0 up: the gaps between the three commands that have no argument
+above-start-lines : (b : ℕ) → 0xE0 ≤ b → b < 256 → (b ≡ 0xE0 → ⊥) → (b ≡ 0xE2 → ⊥) → (b ≡ 0xEE → ⊥) → among kinds b ≡ none
+above-start-lines b l h e0 e2 ee =
+    ⊎-elim
+    (λ low. let p = ltb-true b 0xE2 low in none-between kinds 0xE1 0xE1 b (omega arith) (omega arith) refl)
+    (λ high. let p = ltb-false b 0xE2 high in
+    ⊎-elim
+    (λ mid. let q = ltb-true b 0xEE mid in none-between kinds 0xE3 0xED b (omega arith) (omega arith) refl)
+    (λ top. let q = ltb-false b 0xEE top in none-between kinds 0xEF 0xFF b (omega arith) (omega arith) refl)
+    (tested (ltb b 0xEE)))
+    (tested (ltb b 0xE2))
+
+returns-17 : tie.Need-returns-17
+returns-17 c =
+    let others = c .before .before .before .before .before .before .before .match .rest in
+    sym (above-start-lines _ (omega arith) (omega arith) (others .0 .0 .1) (others .0 .1) (others .1))
+
+pub kind-of-spec : {M : Type 1} → statement M
+kind-of-spec =
+    tie.close
+    (tie.spec
+    (λ c. sym (kind-in-range Modify _ (omega arith) (omega arith)))
+    (λ c. sym (kind-in-range Reset _ (omega arith) (omega arith)))
+    (λ c. sym (kind-in-range End _ (omega arith) (omega arith)))
+    (λ c. sym (kind-in-range Column _ (omega arith) (omega arith)))
+    (λ c. sym (kind-in-range Adc _ (omega arith) (omega arith)))
+    (λ c. sym (kind-in-range Static _ (omega arith) (omega arith)))
+    (λ c. sym (kind-in-range Duty _ (omega arith) (omega arith)))
+    (λ c. sym (kind-in-range Display _ (omega arith) (omega arith)))
+    (λ c. sym (kind-in-range Page _ (omega arith) (omega arith)))
+    (λ c. sym (kind-in-range StartLine _ (omega arith) (omega arith)))
+    (λ c. sym (none-between kinds 0x80 0x9F _ (omega arith) (omega arith) refl))
+    (λ c. sym (none-between kinds 0xA2 0xA3 _ (omega arith) (omega arith) refl))
+    (λ c. sym (none-between kinds 0xA6 0xA7 _ (omega arith) (omega arith) refl))
+    (λ c. sym (none-between kinds 0xAA 0xAD _ (omega arith) (omega arith) refl))
+    (λ c. sym (none-between kinds 0xB0 0xB7 _ (omega arith) (omega arith) refl))
+    (λ c. sym (none-between kinds 0xBC 0xBF _ (omega arith) (omega arith) refl))
+    returns-17)

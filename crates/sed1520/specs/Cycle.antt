@@ -1,0 +1,120 @@
+-- One bus cycle of one chip over its own 320 bytes of RAM.
+use Prim.Native.Nat.{ℕ, _+_, _/_, _%_}
+use mathlib.Core.Bool.{Bool, true, false, not, _&&_, _||_}
+use mathlib.Core.List.{List}
+use mathlib.Core.Option.{Option, none, some}
+use lib.Dec.{ltb, leb, eqb}
+use lib.ListN.{length, getD, set}
+use Rattle.sed1520.specs.Choice.{if}
+use Rattle.sed1520.specs.Chip.{inRange, latched, kindOf, staled, withDisplay, withStatic, withDuty, withReverse, withPage, withStartLine, withColumn, withLatch, withModify}
+use Rattle.sed1520.specs.Command.{decodeOf, within}
+use Rattle.sed1520.specs.Memory.{ramIndex}
+use Rattle.sed1520.specs.declared.registers.Chip.{Chip}
+use Rattle.sed1520.specs.declared.registers.ReadLatch.the-variants.{Fresh, Stale}
+use Rattle.sed1520.specs.declared.commands.Kind.{Kind}
+use Rattle.sed1520.specs.declared.commands.Kind.the-variants.{Display, StartLine, Page, Column, Adc, Static, Duty, Modify, End, Reset}
+use Rattle.sed1520.specs.declared.commands.Command.{Command}
+use Rattle.sed1520.specs.declared.actions.Answer.{Answer}
+use Rattle.sed1520.specs.declared.bus.Record.{Record}
+
+-- the control lines of a record: bit 0 A0, bit 1 RD, bit 2 WR, the last two active low
+abbrev pub addressLine : ℕ → ℕ
+addressLine lines = lines % 2
+
+abbrev pub readLine : ℕ → ℕ
+readLine lines = lines / 2 % 2
+
+abbrev pub writeLine : ℕ → ℕ
+writeLine lines = lines / 4 % 2
+
+-- refused: kind 0, byte 0, the chip as it came
+abbrev pub refusal : ℕ → Chip → Answer
+refusal n c = record { number = n; place = 0; kind = 0; byte = 0; chip = c }
+
+-- done, with the answer's kind and byte and the chip's successor
+abbrev pub answered : ℕ → ℕ → Chip → Answer
+answered k b c = record { number = 0; place = 0; kind = k; byte = b; chip = c }
+
+-- what a cycle gives back, and the RAM afterwards
+pub record Outcome : Type 0 where
+  pub answer : Answer
+  pub ram : List ℕ
+
+abbrev pub outcome : Answer → List ℕ → Outcome
+outcome a ram = record { answer = a; ram = ram }
+
+-- a switch's argument
+abbrev pub on : ℕ → Bool
+on n = not (eqb n 0)
+
+-- the table of commands: what an accepted command does to the chip
+unfoldable pub execute : Kind → ℕ → Chip → Chip
+execute Display a c = withDisplay (on a) c
+execute StartLine a c = withStartLine a c
+execute Page a c = withPage a c
+execute Column a c = staled (withColumn a c)
+execute Adc a c = withReverse (on a) c
+execute Static a c = withStatic (on a) c
+execute Duty a c = withDuty (on a) c
+execute Modify a c = if (c .modify) c (withModify true (c .column) c)
+execute End a c = if (c .modify) (staled (withModify false 0 (withColumn (c .«saved_column») c))) c
+execute Reset a c = staled (withStartLine 0 (withColumn 0 (withPage 0 c)))
+
+-- a column set while read-modify-write is on
+abbrev pub columnLocked : ℕ → Chip → Bool
+columnLocked b c = within Column b && c .modify
+
+abbrev pub executed : ℕ → Option Command → Chip → Answer
+executed b none c = refusal 7 c
+executed b (some m) c = if (columnLocked b c) (refusal 8 c) (answered 0 0 (execute (m .kind) (m .argument) c))
+
+-- a command write; no command alters RAM
+unfoldable pub commandWrite : ℕ → Chip → Answer
+commandWrite b c = executed b (decodeOf b .value) c
+
+-- a data write
+unfoldable pub dataWrite : ℕ → Chip → List ℕ → Outcome
+dataWrite b c ram =
+    if (ltb (c .column) 80)
+    (outcome (answered 0 0 (withColumn (c .column + 1) c)) (set ram (ramIndex (c .page) (c .column)) b))
+    (outcome (answered 0 0 c) ram)
+
+-- the chip after a data read
+unfoldable pub afterRead : Chip → List ℕ → Chip
+afterRead c ram =
+    if (ltb (c .column) 80)
+    (withLatch (Fresh (getD ram (ramIndex (c .page) (c .column)) 0)) (withColumn (if (c .modify) (c .column) (c .column + 1)) c))
+    (staled c)
+
+-- a data read answers the read latch
+unfoldable pub dataRead : Chip → List ℕ → Answer
+dataRead c ram = answered (kindOf (c .latch)) (latched (c .latch)) (afterRead c ram)
+
+-- the status byte: D6 forward, D5 display off; D7 and D4 are 0 by a project rule
+unfoldable pub statusOf : Chip → ℕ
+statusOf c = if (c .reverse) 0 0x40 + if (c .«display_on») 0 0x20
+
+abbrev pub statusRead : Chip → Answer
+statusRead c = answered 3 (statusOf c) c
+
+-- number 6, then the action that the control lines ask for: 2 writes a command, 3 writes data, 4 reads status, 5 reads data
+unfoldable pub actionOf : ℕ → ℕ → Chip → List ℕ → Outcome
+actionOf lines b c ram =
+    if (eqb (readLine lines) (writeLine lines)) (outcome (refusal 6 c) ram)
+    (if (eqb (writeLine lines) 0)
+    (if (eqb (addressLine lines) 0) (outcome (commandWrite b c) ram) (dataWrite b c ram))
+    (if (eqb (addressLine lines) 0) (outcome (statusRead c) ram) (outcome (dataRead c ram) ram)))
+
+-- numbers 4 and 5, then the action, for a chip in range over 320 bytes
+unfoldable pub stepOf : Record → Chip → List ℕ → Outcome
+stepOf r c ram =
+    if (leb 8 (r .lines) || not (eqb (r .spare) 0)) (outcome (refusal 4 c) ram)
+    (if (leb 2 (r .chip)) (outcome (refusal 5 c) ram)
+    (actionOf (r .lines) (r .byte) c ram))
+
+-- one cycle: numbers 1 and 2 first
+unfoldable pub cycleOf : Record → Chip → List ℕ → Outcome
+cycleOf r c ram =
+    if (not (eqb (length ram) 320)) (outcome (refusal 1 c) ram)
+    (if (not (inRange c)) (outcome (refusal 2 c) ram)
+    (stepOf r c ram))

@@ -1,0 +1,64 @@
+-- The checked examples of document 01 that speak of one chip, each begun at the fresh chip with its RAM all 0. Those of the frame and of the
+-- repaint join them in the layers above.
+use Prim.Native.Nat.{ℕ}
+use mathlib.Core.Path.{_≡_}
+use mathlib.Core.List.{List, [], _∷_, _++_}
+use lib.ListN.{getD, replicate}
+use Rattle.sed1520.specs.Chip.{fresh}
+use Rattle.sed1520.specs.Command.{told, notTold, decodeOf}
+use Rattle.sed1520.specs.Memory.{ramIndex}
+use Rattle.sed1520.specs.Cycle.{Outcome, outcome, refusal, answered, cycleOf}
+use Rattle.sed1520.specs.Laws.{sent}
+use Rattle.sed1520.specs.declared.commands.Kind.the-variants.{StartLine}
+use Rattle.sed1520.specs.declared.bus.Record.{Record}
+
+abbrev pub blank : List ℕ
+blank = replicate 320 0
+
+-- what the last of some records gives back, each begun where the one before it left the chip and its RAM
+unfoldable pub ranFrom : Outcome → List Record → Outcome
+ranFrom o [] = o
+ranFrom o (r ∷ rs) = ranFrom (cycleOf r (o .answer .chip) (o .ram)) rs
+
+abbrev pub ran : List Record → Outcome
+ran rs = ranFrom (outcome (answered 0 0 fresh) blank) rs
+
+abbrev pub command : ℕ → Record
+command b = sent 2 0 b
+
+abbrev pub write : ℕ → Record
+write b = sent 3 0 b
+
+abbrev pub status : Record
+status = sent 4 0 0
+
+abbrev pub read : Record
+read = sent 5 0 0
+
+-- the sequences of P1 and of P6
+abbrev pub atLast : List Record
+atLast = command 79 ∷ write 0xA5 ∷ []
+
+abbrev pub blink : List Record
+blink = command 10 ∷ command 0xE0 ∷ read ∷ read ∷ write 0xFF ∷ []
+
+pub record ChipExamples : Type 0 where
+  pub p1-stored : getD (ran atLast .ram) (ramIndex 0 79) 0 ≡ 0xA5
+  pub p1-column : ran atLast .answer .chip .column ≡ 80
+  pub p2-nothing : ran (atLast ++ (write 0x3C ∷ [])) .ram ≡ ran atLast .ram
+  pub p2-column : ran (atLast ++ (write 0x3C ∷ [])) .answer .chip .column ≡ 80
+  pub p3-nothing : ran (command 100 ∷ write 0xA5 ∷ []) .ram ≡ blank
+  pub p3-column : ran (command 100 ∷ write 0xA5 ∷ []) .answer .chip .column ≡ 100
+  pub p4-fresh : ran (status ∷ []) .answer .byte ≡ 0x60
+  pub p4-on-reverse : ran (command 0xAF ∷ command 0xA1 ∷ status ∷ []) .answer .byte ≡ 0x00
+  pub p6-counted : ran blink .answer .chip .column ≡ 11
+  pub p6-returned : ran (blink ++ (command 0xEE ∷ [])) .answer .chip .column ≡ 10
+  pub p7 : ran (command 0xE0 ∷ command 0x05 ∷ []) ≡ outcome (refusal 8 (ran (command 0xE0 ∷ []) .answer .chip)) (ran (command 0xE0 ∷ []) .ram)
+  pub p10-80 : (ran (command 0x80 ∷ []) .answer .number ≡ 7) × (decodeOf 0x80 ≡ notTold 0x80)
+  pub p10-ac : (ran (command 0xAC ∷ []) .answer .number ≡ 7) × (decodeOf 0xAC ≡ notTold 0xAC)
+  pub p10-bc : (ran (command 0xBC ∷ []) .answer .number ≡ 7) × (decodeOf 0xBC ≡ notTold 0xBC)
+  pub p10-e3 : (ran (command 0xE3 ∷ []) .answer .number ≡ 7) × (decodeOf 0xE3 ≡ notTold 0xE3)
+  pub p10-df : (ran (command 0xDF ∷ []) .answer .chip .«start_line» ≡ 31) × (decodeOf 0xDF ≡ told (record { kind = StartLine; argument = 31 }))
+  pub p11-0 : ran (sent 0 0 0 ∷ []) .answer .number ≡ 6
+  pub p11-6 : ran (sent 6 0 0 ∷ []) .answer .number ≡ 6
+  pub p11-8 : ran (sent 8 2 0 ∷ []) .answer .number ≡ 4

@@ -1,0 +1,9 @@
+pub mod Choice
+pub mod Chip
+pub mod Command
+pub mod Memory
+pub mod Cycle
+pub mod Panel
+pub mod Laws
+pub mod Promises
+pub mod Examples

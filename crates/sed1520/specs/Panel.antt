@@ -1,0 +1,42 @@
+-- Two chips on one bus over one RAM image of 640 bytes. A record goes to the chip that it names, with that chip's 320 bytes.
+use Prim.Native.Nat.{ℕ, zero, suc, _*_, _/_}
+use mathlib.Core.List.{List, [], _∷_, _++_}
+use lib.Dec.{eqb}
+use lib.ListN.{length, getD, take, drop}
+use Rattle.sed1520.specs.Choice.{if}
+use Rattle.sed1520.specs.Cycle.{Outcome, cycleOf}
+use Rattle.sed1520.specs.declared.registers.Chip.{Chip}
+use Rattle.sed1520.specs.declared.bus.Record.{Record}
+
+pub record Panel : Type 0 where
+  pub left : Chip
+  pub right : Chip
+  pub ram : List ℕ
+
+-- chip 0 is the left one; a record that names neither is the right chip's to refuse
+abbrev pub chipAt : Panel → ℕ → Chip
+chipAt p k = if (eqb k 0) (p .left) (p .right)
+
+-- a chip's 320 bytes of the image
+abbrev pub ramAt : Panel → ℕ → List ℕ
+ramAt p k = if (eqb k 0) (take 320 (p .ram)) (drop 320 (p .ram))
+
+-- a chip and its bytes put in place, the other chip and its bytes as they were
+abbrev pub put : Panel → ℕ → Chip → List ℕ → Panel
+put p k c bytes =
+    if (eqb k 0)
+    (record { left = c; right = p .right; ram = bytes ++ drop 320 (p .ram) })
+    (record { left = p .left; right = c; ram = take 320 (p .ram) ++ bytes })
+
+-- what the cycle of the chip that the record names gives back
+unfoldable pub outcomeOf : Panel → Record → Outcome
+outcomeOf p r = cycleOf r (chipAt p (r .chip)) (ramAt p (r .chip))
+
+-- the panel after a record
+unfoldable pub stepped : Panel → Record → Panel
+stepped p r = put p (r .chip) (outcomeOf p r .answer .chip) (outcomeOf p r .ram)
+
+-- the panel after a list of records, one after the other
+unfoldable pub after : Panel → List Record → Panel
+after p [] = p
+after p (r ∷ rs) = after (stepped p r) rs

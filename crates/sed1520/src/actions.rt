@@ -1,0 +1,122 @@
+// The four actions of a chip: a command write, a data write, a data read and a status read. Each hands the successor back.
+ghost use mathlib.Core.Path.{_≡_};
+ghost use Rattle.sed1520.specs.Cycle.{refusal, answered, outcome, columnLocked, commandWrite, dataWrite, afterRead, dataRead, statusOf, statusRead};
+use crate::commands::Decoded;
+use crate::commands::decode;
+use crate::memory::load;
+use crate::memory::store;
+use crate::registers::Chip;
+use crate::registers::ReadLatch;
+
+// What a cycle gives back beside the RAM: the number and its place, the answer's kind and byte, and the chip's
+// successor.
+pub struct Answer {
+    pub number: u8,
+    pub place: u8,
+    pub kind: u8,
+    pub byte: u8,
+    pub chip: Chip,
+}
+
+impl Answer {
+    // Refused, the chip is as it came.
+    pub(crate) fn refused(number: u8, chip: Chip) -> Answer
+        ensures { λ r. ⌜ r ≡ refusal number chip ⌝ }
+    {
+        Answer {
+            number,
+            place: 0,
+            kind: 0,
+            byte: 0,
+            chip,
+        }
+    }
+
+    fn done(kind: u8, byte: u8, chip: Chip) -> Answer
+        ensures { λ r. ⌜ r ≡ answered kind byte chip ⌝ }
+    {
+        Answer {
+            number: 0,
+            place: 0,
+            kind,
+            byte,
+            chip,
+        }
+    }
+}
+
+impl Chip {
+    // Whether the byte sets the column while read-modify-write is on.
+    fn column_locked(self, byte: u8) -> bool
+        ensures { λ r. ⌜ r ≡ columnLocked byte self ⌝ }
+    {
+        if byte < 0x80 { self.modify } else { false }
+    }
+
+    // A command write.
+    pub fn command(self, byte: u8) -> Answer
+        ensures { λ r. ⌜ r ≡ commandWrite byte self ⌝ }
+    {
+        let Decoded::Known(command) = decode(byte) else {
+            return Answer::refused(7, self);
+        };
+        if self.column_locked(byte) {
+            return Answer::refused(8, self);
+        }
+        Answer::done(0, 0, self.execute(command))
+    }
+
+    // A data write. Past the last column nothing is stored.
+    pub fn data_write(mut self, byte: u8, ram: &mut [u8]) -> Answer
+        ensures { λ r. ⌜ outcome r (now (ram .exit)) ≡ dataWrite byte self (now (ram .entry)) ⌝ }
+    {
+        if Chip::COLUMN_STOP <= self.column {
+            return Answer::done(0, 0, self);
+        }
+        store(ram, self.page, self.column, byte);
+        self.column += 1;
+        Answer::done(0, 0, self)
+    }
+
+    // The chip after a data read: the latch loaded from the addressed byte, if there is one, and the column counted on.
+    fn after_read(mut self, ram: &[u8]) -> Chip
+        ensures { λ r. ⌜ r ≡ afterRead self (now (ram .entry)) ⌝ }
+    {
+        if Chip::COLUMN_STOP <= self.column {
+            return self.staled();
+        }
+        let next = ReadLatch::Fresh(load(ram, self.page, self.column));
+        if self.modify {
+            return self.with_latch(next);
+        }
+        self.column = self.column + 1;
+        self.with_latch(next)
+    }
+
+    // A data read answers what the latch held.
+    pub fn data_read(self, ram: &[u8]) -> Answer
+        ensures { λ r. ⌜ r ≡ dataRead self (now (ram .entry)) ⌝ }
+    {
+        let next = self.after_read(ram);
+        let latch = self.latch;
+        Answer::done(latch.kind(), latch.byte(), next)
+    }
+
+    // D6: forward. D5: display off. The other bits are 0.
+    fn status_byte(self) -> u8
+        ensures { λ r. ⌜ r ≡ statusOf self ⌝ }
+    {
+        if self.reverse {
+            if self.display_on { 0 } else { 0x20 }
+        } else {
+            if self.display_on { 0x40 } else { 0x60 }
+        }
+    }
+
+    // A status read.
+    pub fn status(self) -> Answer
+        ensures { λ r. ⌜ r ≡ statusRead self ⌝ }
+    {
+        Answer::done(3, self.status_byte(), self)
+    }
+}

@@ -1,0 +1,7 @@
+// One SED1520: its registers, its commands, and one bus cycle over its own 320 bytes of display RAM.
+pub mod actions;
+pub mod bus;
+pub mod commands;
+mod effects;
+mod memory;
+pub mod registers;

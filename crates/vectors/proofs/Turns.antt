@@ -1,0 +1,61 @@
+-- One turn over the rows: what `agreesFrom` says before it, and after it.
+use Prim.Native.Nat.{ℕ, zero, suc, _+_, _-_, _<_, _≤_}
+use native.Mathlib.Omega.{arith}
+use mathlib.Core.Path.{_≡_, refl, sym, ap, _∙_}
+use mathlib.Core.Bool.{Bool, true, false, _&&_, and-false}
+use mathlib.Core.List.{List}
+use lib.Dec.{eqb}
+use lib.ListN.{length, getD, take, drop, length-drop}
+use lib.Seq.{take-all, drop-drop}
+use borrow.Author.Tests.{eq-eqb, ne-eqb}
+use Rattle.sed1520.specs.Cycle.{Outcome, outcome, cycleOf}
+use Rattle.sed1520.specs.declared.registers.Chip.{Chip}
+use Rattle.sed1520.specs.declared.actions.Answer.{Answer}
+use Rattle.sed1520.specs.declared.bus.Record.{Record}
+use Rattle.vectors.specs.Rows.{recordIn, rowAgrees, agreesFrom}
+
+-- the rows from a place on, as the part of the slice that begins there
+pub rest : (rows : List ℕ) (at : ℕ) → take (length rows - at) (drop at rows) ≡ drop at rows
+rest rows at = take-all (length rows - at) (drop at rows) (simp length-drop (omega arith))
+
+module _ (row : List ℕ) (a : Answer) where
+  pub wrong-number : (getD row 4 0 ≡ a .number → ⊥) → rowAgrees row a ≡ false
+  unfolding rowAgrees
+  wrong-number h = rw (ne-eqb (getD row 4 0) (a .number) h)
+
+  module _ (number : getD row 4 0 ≡ a .number) where
+    pub wrong-kind : (getD row 5 0 ≡ a .kind → ⊥) → rowAgrees row a ≡ false
+    unfolding rowAgrees
+    wrong-kind h = rw (eq-eqb (getD row 4 0) (a .number) number, ne-eqb (getD row 5 0) (a .kind) h)
+
+    pub byte-left : getD row 5 0 ≡ a .kind → rowAgrees row a ≡ eqb (getD row 6 0) (a .byte)
+    unfolding rowAgrees
+    byte-left h = rw (eq-eqb (getD row 4 0) (a .number) number, eq-eqb (getD row 5 0) (a .kind) h)
+
+next : (c : Chip) (ram rows : List ℕ) (n : ℕ) → 0 < n → (o : Outcome) → o ≡ cycleOf (recordIn rows) c ram → rowAgrees rows (o .answer) ≡ true → agreesFrom c ram rows n ≡ agreesFrom (o .answer .chip) (o .ram) (drop 7 rows) (n - 1)
+unfolding agreesFrom
+next c ram rows zero h o e t = absurd (omega arith)
+next c ram rows (suc n) h o e t =
+    let less : suc n - 1 ≡ n = omega arith in
+    let t′ = rw e at t in
+    rw (less, e, t′)
+
+stop : (c : Chip) (ram rows : List ℕ) (n : ℕ) → 0 < n → (o : Outcome) → o ≡ cycleOf (recordIn rows) c ram → rowAgrees rows (o .answer) ≡ false → agreesFrom c ram rows n ≡ false
+unfolding agreesFrom
+stop c ram rows zero h o e t = absurd (omega arith)
+stop c ram rows (suc n) h o e t = let t′ = rw e at t in rw t′
+
+-- a turn at a place of the rows, over the part that begins there
+module _ (rows ram after : List ℕ) (at left : ℕ) (c : Chip) (bus : Record) (a : Answer) (some-left : 0 < left) (read : bus ≡ recordIn (take (length rows - at) (drop at rows))) (cycle : outcome a after ≡ cycleOf bus c ram) where
+  cycled : outcome a after ≡ cycleOf (recordIn (drop at rows)) c ram
+  cycled = cycle ∙ ap (λ (r : Record). cycleOf r c ram) (read ∙ ap recordIn (rest rows at))
+
+  pub turn : rowAgrees (take (length rows - at) (drop at rows)) a ≡ true → agreesFrom c ram (drop at rows) left ≡ agreesFrom (a .chip) after (drop (at + 7) rows) (left - 1)
+  turn t =
+      let t′ = rw rest at t in
+      next c ram (drop at rows) left some-left (outcome a after) cycled t′ ∙ rw drop-drop
+
+  pub last : rowAgrees (take (length rows - at) (drop at rows)) a ≡ false → agreesFrom c ram (drop at rows) left ≡ false
+  last t =
+      let t′ = rw rest at t in
+      stop c ram (drop at rows) left some-left (outcome a after) cycled t′

@@ -1,0 +1,36 @@
+-- `vectors::main` meets its contract: each sequence of rows, computed from the definitions, agrees.
+use borrow.Author.Needs.{needs}
+use Rattle.sed1520.specs.Chip.{inRange, fresh}
+use Rattle.sed1520.specs.Command.{among, decodeOf}
+use Rattle.sed1520.specs.Cycle.{execute, commandWrite, dataWrite, afterRead, dataRead, statusOf, actionOf, stepOf, cycleOf}
+use Rattle.vectors.specs.Rows.{rowAgrees, agreesFrom, agreesOf}
+use Rattle.vectors.proofs.main.Statement.{statement}
+use Rattle.vectors.proofs.main.Tie as tie
+
+pub main-spec : {M : Type 1} → statement M
+unfolding agreesOf agreesFrom rowAgrees cycleOf stepOf actionOf commandWrite dataWrite dataRead afterRead statusOf execute decodeOf among inRange fresh
+main-spec =
+    tie.close
+    (tie.spec
+    (λ c. search needs)
+    (λ c κs. search needs)
+    (λ c κs. c .agrees .ensures)
+    (λ c. search needs)
+    (λ c κs. search needs)
+    (λ c κs. c .agrees2 .ensures)
+    (λ c. search needs)
+    (λ c κs. search needs)
+    (λ c κs. c .agrees3 .ensures)
+    (λ c. search needs)
+    (λ c κs. search needs)
+    (λ c κs. c .agrees4 .ensures)
+    (λ c. search needs)
+    (λ c κs. search needs)
+    (λ c κs. c .agrees5 .ensures)
+    (λ c. search needs)
+    (λ c κs. search needs)
+    (λ c κs. c .agrees6 .ensures)
+    (λ c. search needs)
+    (λ c κs. search needs)
+    (λ c κs. c .agrees7 .ensures)
+    (λ c. search needs))
