@@ -13,7 +13,7 @@ use Rattle.sed1520.specs.Chip.{inRange, staled, withColumn}
 use Rattle.sed1520.specs.Command.{count, decodeOf}
 use Rattle.sed1520.specs.Memory.{ramIndex}
 use Rattle.sed1520.specs.Cycle.{Outcome, outcome, refusal, answered, execute, columnLocked, executed, commandWrite, dataWrite, afterRead, dataRead, statusRead, readLine, writeLine, addressLine, actionOf, stepOf, cycleOf}
-use Rattle.sed1520.specs.Promises.{Keeps}
+use Rattle.sed1520.specs.Promises.{Keeps, EveryCycleKeeps}
 use Rattle.sed1520.specs.declared.registers.Chip.{Chip}
 use Rattle.sed1520.specs.declared.commands.Kind.{Kind}
 use Rattle.sed1520.specs.declared.commands.Kind.the-variants.{Display, StartLine, Page, Column, Adc, Static, Duty, Modify, End, Reset}
@@ -96,3 +96,6 @@ module _ (c : Chip) (ram : List ℕ) where
       when (Keeps c ram) (not (eqb (length ram) 320)) (λ _. refusal-keeps 1)
       (λ _. when (Keeps c ram) (not (inRange c)) (λ _. refusal-keeps 2)
       (λ _. step-keeps r))
+
+pub every-cycle-keeps : EveryCycleKeeps
+every-cycle-keeps r c ram = cycle-keeps c ram r

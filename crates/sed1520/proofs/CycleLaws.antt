@@ -6,13 +6,14 @@ use mathlib.Core.Bool.{true, false}
 use mathlib.Core.List.{List}
 use lib.ListN.{length, set}
 use Rattle.sed1520.specs.Chip.{withPage, withColumn, withStartLine}
-use Rattle.sed1520.specs.Command.{first, count}
+use Rattle.sed1520.specs.Command.{first, count, Told}
 use Rattle.sed1520.specs.Memory.{ramIndex}
 use Rattle.sed1520.specs.Cycle.{Outcome, outcome, answered, execute, columnLocked, stepOf, cycleOf}
-use Rattle.sed1520.specs.Laws.{Registers, registers, sent, Fit, Accepts}
+use Rattle.sed1520.specs.Laws.{Registers, registers, sent, Fit, Accepts, CycleLaws}
 use Rattle.sed1520.specs.declared.registers.Chip.{Chip}
 use Rattle.sed1520.specs.declared.commands.Kind.{Kind}
 use Rattle.sed1520.specs.declared.commands.Kind.the-variants.{StartLine, Page, Column}
+use Rattle.sed1520.specs.declared.commands.Command.{Command}
 use Rattle.sed1520.specs.declared.bus.Record.{Record}
 use Rattle.sed1520.proofs.ActionCases.{command-executed, locked-below, unlocked-above, data-write-stored}
 use Rattle.sed1520.proofs.CycleKeeps.{cycle-keeps}
@@ -40,24 +41,24 @@ module _ (c : Chip) (ram : List ℕ) (fit : Fit c ram) where
         cycle-step (sent 2 k b) c ram (fit .bytes) (fit .range)
         ∙ step-action (sent 2 k b) c ram (omega arith) refl addressed
         ∙ action-command 2 b c ram refl
-        ∙ ap (λ x. outcome x ram) (command-executed b c (record { kind = kind; argument = a }) (decoded-argument kind a h) free)
+        ∙ ap (λ x. outcome x ram) (command-executed b c (record { kind = kind; argument = a }) (ap (λ (t : Told Command). t .value) (decoded-argument kind a h)) free)
 
-    pub page-set : (n : ℕ) → n < 4 → Accepts (sent 2 k (first Page + n)) c ram (registers (withPage n c)) ram
+    page-set : (n : ℕ) → n < 4 → Accepts (sent 2 k (first Page + n)) c ram (registers (withPage n c)) ram
     unfolding execute
     page-set n h =
         accepted (sent 2 k (first Page + n)) (withPage n c) ram (registers (withPage n c)) (command-cycle Page n h (unlocked-above (first Page + n) c (omega arith))) refl
 
-    pub start-line-set : (n : ℕ) → n < 32 → Accepts (sent 2 k (first StartLine + n)) c ram (registers (withStartLine n c)) ram
+    start-line-set : (n : ℕ) → n < 32 → Accepts (sent 2 k (first StartLine + n)) c ram (registers (withStartLine n c)) ram
     unfolding execute
     start-line-set n h =
         accepted (sent 2 k (first StartLine + n)) (withStartLine n c) ram (registers (withStartLine n c)) (command-cycle StartLine n h (unlocked-above (first StartLine + n) c (omega arith))) refl
 
-    pub column-set : (n : ℕ) → n < 80 → c .modify ≡ false → Accepts (sent 2 k (first Column + n)) c ram (registers (withColumn n c)) ram
+    column-set : (n : ℕ) → n < 80 → c .modify ≡ false → Accepts (sent 2 k (first Column + n)) c ram (registers (withColumn n c)) ram
     unfolding execute
     column-set n h idle =
         accepted (sent 2 k (first Column + n)) (execute Column n c) ram (registers (withColumn n c)) (command-cycle Column n (omega arith) (locked-below (first Column + n) c (omega arith) ∙ idle)) refl
 
-    pub data-write : (b : ℕ) → c .column < 80 → Accepts (sent 3 k b) c ram (registers (withColumn (c .column + 1) c)) (set ram (ramIndex (c .page) (c .column)) b)
+    data-write : (b : ℕ) → c .column < 80 → Accepts (sent 3 k b) c ram (registers (withColumn (c .column + 1) c)) (set ram (ramIndex (c .page) (c .column)) b)
     data-write b h =
         accepted (sent 3 k b) (withColumn (c .column + 1) c) (set ram (ramIndex (c .page) (c .column)) b) (registers (withColumn (c .column + 1) c))
         (cycle-step (sent 3 k b) c ram (fit .bytes) (fit .range)
@@ -65,3 +66,6 @@ module _ (c : Chip) (ram : List ℕ) (fit : Fit c ram) where
         ∙ action-data-write 3 b c ram refl
         ∙ data-write-stored c ram h b)
         refl
+
+pub cycle-laws : CycleLaws
+cycle-laws = record { page-set = page-set; start-line-set = start-line-set; column-set = column-set; data-write = data-write }

@@ -9,16 +9,13 @@ pub chip-examples : ChipExamples
 unfolding ranFrom cycleOf stepOf actionOf commandWrite dataWrite dataRead afterRead statusOf execute decodeOf among inRange fresh
 chip-examples =
     record {
-      p1-stored = refl;
-      p1-column = refl;
-      p2-nothing = refl;
-      p2-column = refl;
-      p3-nothing = refl;
-      p3-column = refl;
+      p1 = refl;
+      p2 = refl;
+      p3 = refl;
       p4-fresh = refl;
       p4-on-reverse = refl;
-      p6-counted = refl;
-      p6-returned = refl;
+      p6-counted = (refl, refl);
+      p6-returned = (refl, refl);
       p7 = refl;
       p10-80 = (refl, refl);
       p10-ac = (refl, refl);

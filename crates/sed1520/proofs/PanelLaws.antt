@@ -5,11 +5,12 @@ use mathlib.Core.Path.{_≡_, refl, sym, _∙_}
 use mathlib.Core.Bool.{Bool, true, false}
 use mathlib.Core.List.{List, _++_}
 use lib.Dec.{eqb}
-use lib.ListN.{length, take, drop, length-append, length-drop}
+use lib.ListN.{length, take, drop, length-append, length-drop, take-append-drop}
 use lib.Seq.{length-take-le, take-at, drop-at}
 use Rattle.sed1520.specs.Choice.{if}
+use Rattle.sed1520.specs.Chip.{inRange}
 use Rattle.sed1520.specs.Panel.{Panel, chipAt, ramAt, outcomeOf, stepped}
-use Rattle.sed1520.specs.Promises.{Apart}
+use Rattle.sed1520.specs.Promises.{Apart, EveryRecordApart}
 use Rattle.sed1520.specs.declared.registers.Chip.{Chip}
 use Rattle.sed1520.specs.declared.bus.Record.{Record}
 use Rattle.sed1520.proofs.CycleKeeps.{cycle-keeps}
@@ -76,3 +77,24 @@ module _ (p : Panel) (whole : length (p .ram) ≡ 640) where
         other-ram = λ k h. other-ram next bytes half (eqb k 0) (eqb (r .chip) 0) h;
         length = put-length next bytes half (eqb (r .chip) 0);
       }
+
+-- a refused record leaves the whole panel as it was
+pub refused-record : (p : Panel) (r : Record) → (outcomeOf p r .answer .number ≡ 0 → ⊥) → stepped p r ≡ p
+unfolding stepped outcomeOf
+refused-record p r h =
+    let same = cycle-keeps (chipAt p (r .chip)) (ramAt p (r .chip)) r .refused h in
+    rw same (put-back (eqb (r .chip) 0))
+  where
+    put-back : (t : Bool) → putOn t p (chipOn t p) (ramOn t p) ≡ p
+    put-back true = rw (take-append-drop 320 (p .ram))
+    put-back false = rw (take-append-drop 320 (p .ram))
+
+-- chips in range stay in range
+pub chips-in-range : (p : Panel) (r : Record) → inRange (p .left) ≡ true → inRange (p .right) ≡ true → (inRange (stepped p r .left) ≡ true) × (inRange (stepped p r .right) ≡ true)
+unfolding stepped outcomeOf
+chips-in-range p r left right =
+    let own = cycle-keeps (chipAt p (r .chip)) (ramAt p (r .chip)) r .range (when (λ (c : Chip). inRange c ≡ true) (eqb (r .chip) 0) (λ _. left) (λ _. right)) in
+    (when (λ (q : Panel). inRange (q .left) ≡ true) (eqb (r .chip) 0) (λ _. own) (λ _. left), when (λ (q : Panel). inRange (q .right) ≡ true) (eqb (r .chip) 0) (λ _. right) (λ _. own))
+
+pub every-record-apart : EveryRecordApart
+every-record-apart = apart

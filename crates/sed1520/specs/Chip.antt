@@ -1,4 +1,4 @@
--- A chip's registers: which values number 2 lets pass, the fresh chip, the read latch, and each register written alone.
+-- A chip's registers: which values of a chip number 2 lets pass, the fresh chip, the read latch, and each register written alone.
 use Prim.Native.Nat.{ℕ}
 use mathlib.Core.Bool.{Bool, true, false, _&&_, _||_}
 use lib.Dec.{ltb, eqb}
@@ -39,7 +39,7 @@ kindOf (Stale b) = 2
 
 -- made stale, the latch keeps its byte
 abbrev pub stale : ReadLatch → ReadLatch
-stale h = Stale (latched h)
+stale latch = Stale (latched latch)
 
 -- a chip from its registers, in their order
 abbrev pub chipOf : Bool → Bool → Bool → Bool → Bool → ℕ → ℕ → ℕ → ℕ → ReadLatch → Chip
@@ -79,7 +79,7 @@ abbrev pub withLatch : ReadLatch → Chip → Chip
 withLatch v c =
     chipOf (c .«display_on») (c .«static_on») (c .«duty_32») (c .reverse) (c .modify) (c .page) (c .«start_line») (c .column) (c .«saved_column») v
 
--- read-modify-write on with its saved column, or off with none
+-- read-modify-write and its saved column written together
 abbrev pub withModify : Bool → ℕ → Chip → Chip
 withModify on saved c =
     chipOf (c .«display_on») (c .«static_on») (c .«duty_32») (c .reverse) on (c .page) (c .«start_line») (c .column) saved (c .latch)

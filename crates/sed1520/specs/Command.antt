@@ -1,6 +1,6 @@
 -- One rule for both ways between commands and bytes: each kind has a first byte and a count of arguments.
 use Prim.Native.Nat.{ℕ, _+_, _-_}
-use mathlib.Core.Bool.{Bool, true, false, _&&_}
+use mathlib.Core.Bool.{Bool, _&&_}
 use mathlib.Core.List.{List, [], _∷_}
 use mathlib.Core.Option.{Option, none, some}
 use lib.Dec.{ltb, leb}
@@ -60,6 +60,7 @@ pub record Told (A : Type 0) : Type 0 where
   pub place : ℕ
   pub value : Option A
 
+-- done: number 0, place 0
 abbrev pub told : {A : Type 0} → A → Told A
 told a = record { number = 0; place = 0; value = some a }
 
@@ -67,6 +68,7 @@ told a = record { number = 0; place = 0; value = some a }
 abbrev pub notTold : {A : Type 0} → ℕ → Told A
 notTold at = record { number = 7; place = at; value = none }
 
+-- the command of a byte and of the kind whose range has it
 abbrev pub commandOf : ℕ → Option Kind → Told Command
 commandOf b none = notTold b
 commandOf b (some k) = told (record { kind = k; argument = b - first k })
@@ -79,7 +81,7 @@ decodeOf b = commandOf b (among kinds b)
 unfoldable pub encodeOf : Command → Told ℕ
 encodeOf m = if (ltb (m .argument) (count (m .kind))) (told (first (m .kind) + m .argument)) (notTold (m .argument))
 
--- what the cases of the code's answers stand for
+-- what the cases of the code's answers stand for: the kind that was found, a told command, a made byte
 abbrev pub foundKind : Found → Option Kind
 foundKind (Of k) = some k
 foundKind Nothing = none

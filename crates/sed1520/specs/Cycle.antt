@@ -10,7 +10,7 @@ use Rattle.sed1520.specs.Chip.{inRange, latched, kindOf, staled, withDis
 use Rattle.sed1520.specs.Command.{decodeOf, within}
 use Rattle.sed1520.specs.Memory.{ramIndex}
 use Rattle.sed1520.specs.declared.registers.Chip.{Chip}
-use Rattle.sed1520.specs.declared.registers.ReadLatch.the-variants.{Fresh, Stale}
+use Rattle.sed1520.specs.declared.registers.ReadLatch.the-variants.{Fresh}
 use Rattle.sed1520.specs.declared.commands.Kind.{Kind}
 use Rattle.sed1520.specs.declared.commands.Kind.the-variants.{Display, StartLine, Page, Column, Adc, Static, Duty, Modify, End, Reset}
 use Rattle.sed1520.specs.declared.commands.Command.{Command}
@@ -40,10 +40,11 @@ pub record Outcome : Type 0 where
   pub answer : Answer
   pub ram : List ℕ
 
+-- the two together
 abbrev pub outcome : Answer → List ℕ → Outcome
 outcome a ram = record { answer = a; ram = ram }
 
--- a switch's argument
+-- a switch's argument: 0 off, else on
 abbrev pub on : ℕ → Bool
 on n = not (eqb n 0)
 
@@ -64,6 +65,7 @@ execute Reset a c = staled (withStartLine 0 (withColumn 0 (withPage 0 c)))
 abbrev pub columnLocked : ℕ → Chip → Bool
 columnLocked b c = within Column b && c .modify
 
+-- number 7 for a byte that is no command, then number 8, then the command executed
 abbrev pub executed : ℕ → Option Command → Chip → Answer
 executed b none c = refusal 7 c
 executed b (some m) c = if (columnLocked b c) (refusal 8 c) (answered 0 0 (execute (m .kind) (m .argument) c))
@@ -90,10 +92,11 @@ afterRead c ram =
 unfoldable pub dataRead : Chip → List ℕ → Answer
 dataRead c ram = answered (kindOf (c .latch)) (latched (c .latch)) (afterRead c ram)
 
--- the status byte: D6 forward, D5 display off; D7 and D4 are 0 by a project rule
+-- the status byte: D6 forward, D5 display off, D3 to D0 0; D7 and D4 are 0 by a project rule
 unfoldable pub statusOf : Chip → ℕ
 statusOf c = if (c .reverse) 0 0x40 + if (c .«display_on») 0 0x20
 
+-- a status read changes nothing
 abbrev pub statusRead : Chip → Answer
 statusRead c = answered 3 (statusOf c) c
 
@@ -105,7 +108,7 @@ actionOf lines b c ram =
     (if (eqb (addressLine lines) 0) (outcome (commandWrite b c) ram) (dataWrite b c ram))
     (if (eqb (addressLine lines) 0) (outcome (statusRead c) ram) (outcome (dataRead c ram) ram)))
 
--- numbers 4 and 5, then the action, for a chip in range over 320 bytes
+-- a cycle past numbers 1 and 2: numbers 4 and 5, then the action
 unfoldable pub stepOf : Record → Chip → List ℕ → Outcome
 stepOf r c ram =
     if (leb 8 (r .lines) || not (eqb (r .spare) 0)) (outcome (refusal 4 c) ram)

@@ -2,9 +2,10 @@
 -- repaint join them in the layers above.
 use Prim.Native.Nat.{ℕ}
 use mathlib.Core.Path.{_≡_}
+use mathlib.Core.Bool.{true}
 use mathlib.Core.List.{List, [], _∷_, _++_}
-use lib.ListN.{getD, replicate}
-use Rattle.sed1520.specs.Chip.{fresh}
+use lib.ListN.{replicate, set}
+use Rattle.sed1520.specs.Chip.{fresh, withDisplay, withReverse, withColumn}
 use Rattle.sed1520.specs.Command.{told, notTold, decodeOf}
 use Rattle.sed1520.specs.Memory.{ramIndex}
 use Rattle.sed1520.specs.Cycle.{Outcome, outcome, refusal, answered, cycleOf}
@@ -12,6 +13,7 @@ use Rattle.sed1520.specs.Laws.{sent}
 use Rattle.sed1520.specs.declared.commands.Kind.the-variants.{StartLine}
 use Rattle.sed1520.specs.declared.bus.Record.{Record}
 
+-- a chip's RAM all 0
 abbrev pub blank : List ℕ
 blank = replicate 320 0
 
@@ -20,9 +22,11 @@ unfoldable pub ranFrom : Outcome → List Record → Outcome
 ranFrom o [] = o
 ranFrom o (r ∷ rs) = ranFrom (cycleOf r (o .answer .chip) (o .ram)) rs
 
+-- begun at the fresh chip
 abbrev pub ran : List Record → Outcome
 ran rs = ranFrom (outcome (answered 0 0 fresh) blank) rs
 
+-- the four kinds of record, to chip 0
 abbrev pub command : ℕ → Record
 command b = sent 2 0 b
 
@@ -42,17 +46,15 @@ atLast = command 79 ∷ write 0xA5 ∷ []
 abbrev pub blink : List Record
 blink = command 10 ∷ command 0xE0 ∷ read ∷ read ∷ write 0xFF ∷ []
 
+-- P1 to P4, P6, P7, P10 and P11
 pub record ChipExamples : Type 0 where
-  pub p1-stored : getD (ran atLast .ram) (ramIndex 0 79) 0 ≡ 0xA5
-  pub p1-column : ran atLast .answer .chip .column ≡ 80
-  pub p2-nothing : ran (atLast ++ (write 0x3C ∷ [])) .ram ≡ ran atLast .ram
-  pub p2-column : ran (atLast ++ (write 0x3C ∷ [])) .answer .chip .column ≡ 80
-  pub p3-nothing : ran (command 100 ∷ write 0xA5 ∷ []) .ram ≡ blank
-  pub p3-column : ran (command 100 ∷ write 0xA5 ∷ []) .answer .chip .column ≡ 100
-  pub p4-fresh : ran (status ∷ []) .answer .byte ≡ 0x60
-  pub p4-on-reverse : ran (command 0xAF ∷ command 0xA1 ∷ status ∷ []) .answer .byte ≡ 0x00
-  pub p6-counted : ran blink .answer .chip .column ≡ 11
-  pub p6-returned : ran (blink ++ (command 0xEE ∷ [])) .answer .chip .column ≡ 10
+  pub p1 : ran atLast ≡ outcome (answered 0 0 (withColumn 80 fresh)) (set blank (ramIndex 0 79) 0xA5)
+  pub p2 : ran (atLast ++ (write 0x3C ∷ [])) ≡ ran atLast
+  pub p3 : ran (command 100 ∷ write 0xA5 ∷ []) ≡ outcome (answered 0 0 (withColumn 100 fresh)) blank
+  pub p4-fresh : ran (status ∷ []) .answer ≡ answered 3 0x60 fresh
+  pub p4-on-reverse : ran (command 0xAF ∷ command 0xA1 ∷ status ∷ []) .answer ≡ answered 3 0x00 (withReverse true (withDisplay true fresh))
+  pub p6-counted : (ran blink .answer .number ≡ 0) × (ran blink .answer .chip .column ≡ 11)
+  pub p6-returned : (ran (blink ++ (command 0xEE ∷ [])) .answer .number ≡ 0) × (ran (blink ++ (command 0xEE ∷ [])) .answer .chip .column ≡ 10)
   pub p7 : ran (command 0xE0 ∷ command 0x05 ∷ []) ≡ outcome (refusal 8 (ran (command 0xE0 ∷ []) .answer .chip)) (ran (command 0xE0 ∷ []) .ram)
   pub p10-80 : (ran (command 0x80 ∷ []) .answer .number ≡ 7) × (decodeOf 0x80 ≡ notTold 0x80)
   pub p10-ac : (ran (command 0xAC ∷ []) .answer .number ≡ 7) × (decodeOf 0xAC ≡ notTold 0xAC)

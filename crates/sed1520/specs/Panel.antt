@@ -1,13 +1,14 @@
 -- Two chips on one bus over one RAM image of 640 bytes. A record goes to the chip that it names, with that chip's 320 bytes.
-use Prim.Native.Nat.{ℕ, zero, suc, _*_, _/_}
+use Prim.Native.Nat.{ℕ}
 use mathlib.Core.List.{List, [], _∷_, _++_}
 use lib.Dec.{eqb}
-use lib.ListN.{length, getD, take, drop}
+use lib.ListN.{take, drop}
 use Rattle.sed1520.specs.Choice.{if}
 use Rattle.sed1520.specs.Cycle.{Outcome, cycleOf}
 use Rattle.sed1520.specs.declared.registers.Chip.{Chip}
 use Rattle.sed1520.specs.declared.bus.Record.{Record}
 
+-- both chips and the image
 pub record Panel : Type 0 where
   pub left : Chip
   pub right : Chip

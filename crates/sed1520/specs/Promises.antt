@@ -1,14 +1,13 @@
 -- What is proved of the definitions beside the functions' contracts.
-use Prim.Native.Nat.{ℕ, zero, suc, _+_, _<_}
+use Prim.Native.Nat.{ℕ, zero, suc, _+_, _<_, _≤_}
 use mathlib.Core.Path.{_≡_}
 use mathlib.Core.Bool.{Bool, true, false}
 use mathlib.Core.List.{List}
-use mathlib.Core.Option.{Option, none, some}
 use lib.Dec.{eqb}
 use lib.ListN
 use Rattle.sed1520.specs.Choice.{if}
 use Rattle.sed1520.specs.Chip.{inRange}
-use Rattle.sed1520.specs.Command.{decodeOf, encodeOf}
+use Rattle.sed1520.specs.Command.{count, told, notTold, decodeOf, encodeOf}
 use Rattle.sed1520.specs.Cycle.{Outcome, outcome, refusal, cycleOf}
 use Rattle.sed1520.specs.Panel.{Panel, chipAt, ramAt, outcomeOf, stepped}
 use Rattle.sed1520.specs.declared.registers.Chip.{Chip}
@@ -24,19 +23,25 @@ countBelow test (suc n) = if (test n) 1 0 + countBelow test n
 abbrev pub isCommand : ℕ → Bool
 isCommand b = eqb (decodeOf b .number) 0
 
--- commands and bytes: each way undoes the other, on exactly 175 bytes
+-- commands and bytes: each way undoes the other, on exactly 175 bytes; any other byte or command is refused with number 7, itself or its argument as place
 pub record OneRule : Type 0 where
-  pub there : (m : Command) (b : ℕ) → encodeOf m .value ≡ some b → decodeOf b .value ≡ some m
-  pub back : (b : ℕ) (m : Command) → decodeOf b .value ≡ some m → encodeOf m .value ≡ some b
-  pub byte : (b : ℕ) (m : Command) → decodeOf b .value ≡ some m → b < 256
+  pub there : (m : Command) (b : ℕ) → encodeOf m ≡ told b → decodeOf b ≡ told m
+  pub back : (b : ℕ) (m : Command) → decodeOf b ≡ told m → encodeOf m ≡ told b
+  pub byte : (b : ℕ) (m : Command) → decodeOf b ≡ told m → b < 256
   pub many : countBelow isCommand 256 ≡ 175
+  pub no-command : (b : ℕ) → isCommand b ≡ false → decodeOf b ≡ notTold b
+  pub no-byte : (m : Command) → count (m .kind) ≤ m .argument → encodeOf m ≡ notTold (m .argument)
 
--- what every cycle keeps: place 0, the RAM's length, a chip in range; and refused, it changes nothing and answers kind 0, byte 0
+-- what an outcome keeps of the chip and the RAM that a cycle was given: place 0, the RAM's length, a chip in range; and refused, it changes nothing and answers kind 0, byte 0
 pub record Keeps (c : Chip) (ram : List ℕ) (o : Outcome) : Type 0 where
   pub place : o .answer .place ≡ 0
   pub length : ListN.length (o .ram) ≡ ListN.length ram
   pub range : inRange c ≡ true → inRange (o .answer .chip) ≡ true
   pub refused : (o .answer .number ≡ 0 → ⊥) → o ≡ outcome (refusal (o .answer .number) c) ram
+
+-- every cycle keeps it
+abbrev pub EveryCycleKeeps : Type 0
+EveryCycleKeeps = (r : Record) (c : Chip) (ram : List ℕ) → Keeps c ram (cycleOf r c ram)
 
 -- two chips on one bus: the record's own chip and its bytes are as its cycle leaves them, the other chip and its bytes as they were
 pub record Apart (p : Panel) (r : Record) : Type 0 where
@@ -45,3 +50,7 @@ pub record Apart (p : Panel) (r : Record) : Type 0 where
   pub other-chip : (k : ℕ) → (eqb k 0 ≡ eqb (r .chip) 0 → ⊥) → chipAt (stepped p r) k ≡ chipAt p k
   pub other-ram : (k : ℕ) → (eqb k 0 ≡ eqb (r .chip) 0 → ⊥) → ramAt (stepped p r) k ≡ ramAt p k
   pub length : ListN.length (stepped p r .ram) ≡ 640
+
+-- for every record on every panel of 640 bytes
+abbrev pub EveryRecordApart : Type 0
+EveryRecordApart = (p : Panel) → ListN.length (p .ram) ≡ 640 → (r : Record) → Apart p r

@@ -32,6 +32,7 @@ impl Answer {
         }
     }
 
+    // Done, with what a read answers and the successor.
     fn done(kind: u8, byte: u8, chip: Chip) -> Answer
         ensures { λ r. ⌜ r ≡ answered kind byte chip ⌝ }
     {
@@ -54,7 +55,7 @@ impl Chip {
     }
 
     // A command write.
-    pub fn command(self, byte: u8) -> Answer
+    pub(crate) fn command(self, byte: u8) -> Answer
         ensures { λ r. ⌜ r ≡ commandWrite byte self ⌝ }
     {
         let Decoded::Known(command) = decode(byte) else {
@@ -67,7 +68,7 @@ impl Chip {
     }
 
     // A data write. Past the last column nothing is stored.
-    pub fn data_write(mut self, byte: u8, ram: &mut [u8]) -> Answer
+    pub(crate) fn data_write(mut self, byte: u8, ram: &mut [u8]) -> Answer
         ensures { λ r. ⌜ outcome r (now (ram .exit)) ≡ dataWrite byte self (now (ram .entry)) ⌝ }
     {
         if Chip::COLUMN_STOP <= self.column {
@@ -78,7 +79,8 @@ impl Chip {
         Answer::done(0, 0, self)
     }
 
-    // The chip after a data read: the latch loaded from the addressed byte, if there is one, and the column counted on.
+    // The chip after a data read: below the last column the latch is loaded from the addressed byte and the column
+    // counted on, unless read-modify-write keeps it; past it the latch turns stale.
     fn after_read(mut self, ram: &[u8]) -> Chip
         ensures { λ r. ⌜ r ≡ afterRead self (now (ram .entry)) ⌝ }
     {
@@ -94,7 +96,7 @@ impl Chip {
     }
 
     // A data read answers what the latch held.
-    pub fn data_read(self, ram: &[u8]) -> Answer
+    pub(crate) fn data_read(self, ram: &[u8]) -> Answer
         ensures { λ r. ⌜ r ≡ dataRead self (now (ram .entry)) ⌝ }
     {
         let next = self.after_read(ram);
@@ -114,7 +116,7 @@ impl Chip {
     }
 
     // A status read.
-    pub fn status(self) -> Answer
+    pub(crate) fn status(self) -> Answer
         ensures { λ r. ⌜ r ≡ statusRead self ⌝ }
     {
         Answer::done(3, self.status_byte(), self)

@@ -28,7 +28,7 @@ fn act(lines: u8, byte: u8, chip: Chip, ram: &mut [u8]) -> Answer
     }
 }
 
-// A cycle of a chip in range over its own 320 bytes, neither of which is tested again.
+// A cycle past numbers 1 and 2, for a caller that has tested the chip's range and the RAM's length.
 pub fn step(bus: Record, chip: Chip, ram: &mut [u8]) -> Answer
     ensures { λ r. ⌜ outcome r (now (ram .exit)) ≡ stepOf bus chip (now (ram .entry)) ⌝ }
 {

@@ -1,4 +1,4 @@
-// Commands and bytes, told from each other by one rule: each kind has a first byte and a count of arguments.
+// Commands and bytes. Both ways go by one rule of specs/Command.antt: each kind has a first byte and a count of arguments.
 ghost use mathlib.Core.Path.{_≡_};
 ghost use Rattle.sed1520.specs.Command.{first, count, kinds, among, foundKind, decodeOf, encodeOf, toldCommand, toldByte};
 
@@ -16,6 +16,7 @@ pub enum Kind {
     Reset,
 }
 
+// A kind with its argument.
 pub struct Command {
     pub kind: Kind,
     pub argument: u8,
@@ -77,6 +78,7 @@ impl Kind {
     }
 }
 
+// The byte of a command.
 pub fn encode(command: Command) -> Encoded
     ensures { λ r. ⌜ toldByte r ≡ encodeOf command ⌝ }
 {
@@ -107,6 +109,7 @@ fn kind_of(byte: u8) -> Found
     }
 }
 
+// The command that a byte is.
 pub fn decode(byte: u8) -> Decoded
     ensures { λ r. ⌜ toldCommand r ≡ decodeOf byte ⌝ }
 {

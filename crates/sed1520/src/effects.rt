@@ -32,6 +32,7 @@ impl Chip {
         self
     }
 
+    // Start line, column and page 0; the rest stays.
     fn reset(mut self) -> Chip
         ensures { λ r. ⌜ r ≡ execute Reset 0 self ⌝ }
     {

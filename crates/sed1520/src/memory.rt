@@ -4,6 +4,7 @@ ghost use lib.ListN.{getD, set};
 ghost use Rattle.sed1520.specs.Memory.{ramIndex};
 use crate::registers::Chip;
 
+// The place of the byte.
 pub(crate) fn index(page: u8, column: u8) -> usize
     ensures { λ r. ⌜ r ≡ ramIndex page column ⌝ }
 {

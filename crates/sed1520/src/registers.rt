@@ -10,6 +10,7 @@ pub enum ReadLatch {
 }
 
 impl ReadLatch {
+    // The byte, fresh or stale.
     pub(crate) fn byte(self) -> u8
         ensures { λ r. ⌜ r ≡ latched self ⌝ }
     {
@@ -67,6 +68,7 @@ impl Chip {
     // The bytes of a chip's four pages.
     pub const RAM_WIDTH: usize = 320;
 
+    // The chip before its first cycle, a project rule.
     pub fn fresh() -> Chip
         ensures { λ r. ⌜ r ≡ fresh ⌝ }
     {
@@ -84,7 +86,7 @@ impl Chip {
         }
     }
 
-    // Whether number 2 lets the chip pass.
+    // Whether number 2 lets this value of a chip pass.
     pub fn in_range(self) -> bool
         ensures { λ r. ⌜ r ≡ inRange self ⌝ }
     {
@@ -106,6 +108,7 @@ impl Chip {
         self.saved_column == 0
     }
 
+    // The read latch written, all else as it was.
     pub(crate) fn with_latch(self, latch: ReadLatch) -> Chip
         ensures { λ r. ⌜ r ≡ withLatch latch self ⌝ }
     {
