@@ -1,0 +1,6 @@
+pub mod AfterEach
+pub mod Bounds
+pub mod ReplayCases
+pub mod Resumed
+pub mod TakenTurn
+pub mod Upto

@@ -1,0 +1,4 @@
+pub mod Records
+pub mod Replay
+pub mod Turns
+pub mod Promises

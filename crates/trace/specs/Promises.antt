@@ -1,0 +1,36 @@
+-- Demand 2 after each cycle, and not only at the end.
+use Prim.Native.Nat.{ℕ, _*_, _/_, _%_, _≤_}
+use mathlib.Core.Path.{_≡_}
+use mathlib.Core.Bool.{true}
+use mathlib.Core.List.{List, _++_}
+use lib.ListN.{length, take, drop}
+use Rattle.sed1520.specs.Chip.{inRange}
+use Rattle.sed1520.specs.Panel.{Panel, after}
+use Rattle.trace.specs.Records.{wholeRecords}
+use Rattle.trace.specs.Replay.{Reply, runOf, comparedIn, differingIn, bytesOf, replayOf}
+
+-- none of numbers 1 to 3
+pub record Runs (p : Panel) (trace answers : List ℕ) : Type 0 where
+  pub size : length trace ≤ 65536
+  pub image : length (p .ram) ≡ 640
+  pub space : 2 * (length trace / 4) ≤ length answers
+  pub left : inRange (p .left) ≡ true
+  pub right : inRange (p .right) ≡ true
+  pub whole : length trace % 4 ≡ 0
+
+-- the replies of the whole replay
+abbrev pub repliesOf : Panel → List ℕ → List Reply
+repliesOf p trace = runOf p (wholeRecords trace) .replies
+
+-- for every k up to the place, the replay of the first k records is done and gives the panel, the answers and the counts that the whole replay had after k
+pub record AfterEach (p : Panel) (trace answers : List ℕ) (k : ℕ) : Type 0 where
+  pub number : replayOf p (take (4 * k) trace) answers .number ≡ 0
+  pub place : replayOf p (take (4 * k) trace) answers .place ≡ k
+  pub compared : replayOf p (take (4 * k) trace) answers .compared ≡ comparedIn (take k (repliesOf p trace))
+  pub differing : replayOf p (take (4 * k) trace) answers .differing ≡ differingIn (take k (repliesOf p trace)) (wholeRecords trace)
+  pub panel : replayOf p (take (4 * k) trace) answers .panel ≡ after p (take k (wholeRecords trace))
+  pub answers-then : replayOf p (take (4 * k) trace) answers .answers ≡ bytesOf (take k (repliesOf p trace)) ++ drop (2 * k) answers
+
+-- after each record of every replay that numbers 1 to 3 let pass
+abbrev pub AfterEachRecord : Type 0
+AfterEachRecord = (p : Panel) (trace answers : List ℕ) → Runs p trace answers → (k : ℕ) → k ≤ replayOf p trace answers .place → AfterEach p trace answers k

@@ -1,0 +1,104 @@
+-- The replay of a trace: the records one after the other, each answered as its cycle answers it, up to the first refused record.
+use Prim.Native.Nat.{ℕ, _+_, _*_, _/_, _%_}
+use mathlib.Core.Bool.{Bool, true, false, not, _&&_, _||_}
+use mathlib.Core.List.{List, [], _∷_, _++_}
+use lib.Dec.{ltb, eqb}
+use lib.ListN.{length, drop}
+use Rattle.sed1520.specs.Choice.{if}
+use Rattle.sed1520.specs.Chip.{inRange}
+use Rattle.sed1520.specs.Panel.{Panel, outcomeOf, stepped}
+use Rattle.sed1520.specs.declared.bus.Record.{Record}
+use Rattle.sed1520.specs.declared.registers.Chip.{Chip}
+use Rattle.trace.specs.Records.{wholeRecords}
+use Rattle.trace.specs.declared.Replayed.{Replayed}
+
+-- what an accepted record is answered: 0 a write, 1 a data read with a fresh latch, 2 one with a stale latch, 3 status
+pub record Reply : Type 0 where
+  pub kind : ℕ
+  pub byte : ℕ
+
+-- where a list of records ends: the number of the refused one or 0, the replies before it, and the panel after them
+pub record Run : Type 0 where
+  pub number : ℕ
+  pub replies : List Reply
+  pub panel : Panel
+
+abbrev pub replied : ℕ → ℕ → Run → Run
+replied k b r = record { number = r .number; replies = record { kind = k; byte = b } ∷ r .replies; panel = r .panel }
+
+unfoldable pub runOf : Panel → List Record → Run
+runOf p [] = record { number = 0; replies = []; panel = p }
+runOf p (r ∷ rs) =
+    if (eqb (outcomeOf p r .answer .number) 0)
+    (replied (outcomeOf p r .answer .kind) (outcomeOf p r .answer .byte) (runOf (stepped p r) rs))
+    (record { number = outcomeOf p r .answer .number; replies = []; panel = p })
+
+-- kinds 1 and 3 are compared with the byte that the recorder saw
+abbrev pub isCompared : ℕ → Bool
+isCompared kind = eqb kind 1 || eqb kind 3
+
+-- the counts, over the replies: how many reads were compared, and how many of these differ from the record's byte
+unfoldable pub comparedIn : List Reply → ℕ
+comparedIn [] = 0
+comparedIn (a ∷ more) = if (isCompared (a .kind)) 1 0 + comparedIn more
+
+unfoldable pub differingIn : List Reply → List Record → ℕ
+differingIn [] rs = 0
+differingIn (a ∷ more) [] = 0
+differingIn (a ∷ more) (r ∷ rs) = if (isCompared (a .kind) && not (eqb (a .byte) (r .byte))) 1 0 + differingIn more rs
+
+-- the replies as they stand in the answer buffer, two bytes each
+unfoldable pub bytesOf : List Reply → List ℕ
+bytesOf [] = []
+bytesOf (a ∷ more) = a .kind ∷ a .byte ∷ bytesOf more
+
+-- what a replay gives back, and the panel and the answer buffer afterwards
+pub record Outcome : Type 0 where
+  pub number : ℕ
+  pub place : ℕ
+  pub compared : ℕ
+  pub differing : ℕ
+  pub panel : Panel
+  pub answers : List ℕ
+
+-- refused before the first record: nothing is changed and nothing compared
+abbrev pub refusedAt : ℕ → ℕ → Panel → List ℕ → Outcome
+refusedAt n at p answers = record { number = n; place = at; compared = 0; differing = 0; panel = p; answers = answers }
+
+-- the records run: done or refused at a record, with the replies before it; the bytes past them stay
+unfoldable pub ended : Run → List Record → List ℕ → Outcome
+ended r rs answers =
+    record {
+      number = r .number;
+      place = length (r .replies);
+      compared = comparedIn (r .replies);
+      differing = differingIn (r .replies) rs;
+      panel = r .panel;
+      answers = bytesOf (r .replies) ++ drop (2 * length (r .replies)) answers;
+    }
+
+-- number 1: a trace over 65,536 bytes, an image that is not 640, answers under two bytes for each whole record
+unfoldable pub sizesWrong : ℕ → ℕ → ℕ → Bool
+sizesWrong trace ram answers = ltb 65536 trace || (not (eqb ram 640) || ltb answers (2 * (trace / 4)))
+
+-- numbers 1, 2 (left before right) and 3, then the records
+unfoldable pub replayOf : Panel → List ℕ → List ℕ → Outcome
+replayOf p trace answers =
+    if (sizesWrong (length trace) (length (p .ram)) (length answers)) (refusedAt 1 0 p answers)
+    (if (not (inRange (p .left))) (refusedAt 2 0 p answers)
+    (if (not (inRange (p .right))) (refusedAt 2 1 p answers)
+    (if (not (eqb (length trace % 4) 0)) (refusedAt 3 (length trace / 4) p answers)
+    (ended (runOf p (wholeRecords trace)) (wholeRecords trace) answers))))
+
+-- two chips by value and the lent image are a panel
+abbrev pub panelOf : Chip → Chip → List ℕ → Panel
+panelOf left right ram = record { left = left; right = right; ram = ram }
+
+-- what the function gives back and leaves in what it was lent, as an outcome
+abbrev pub outcome : Replayed → List ℕ → List ℕ → Outcome
+outcome r ram answers =
+    record { number = r .number; place = r .place; compared = r .compared; differing = r .differing; panel = panelOf (r .left) (r .right) ram; answers = answers }
+
+-- a refusal before the first record
+abbrev pub refusal : ℕ → ℕ → Chip → Chip → Replayed
+refusal n at left right = record { number = n; place = at; compared = 0; differing = 0; left = left; right = right }
