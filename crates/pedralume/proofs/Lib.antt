@@ -1,0 +1,4 @@
+pub mod CallCases
+pub mod Marks
+pub mod RecordsUndo
+pub mod TwoRecords

@@ -1,0 +1,53 @@
+-- The calls of the C side: what each gives back, and what it leaves in every buffer that it was lent.
+use Prim.Native.Nat.{ℕ, _+_, _*_, _/_, _%_, _^_}
+use mathlib.Core.Bool.{Bool, not}
+use mathlib.Core.List.{List, _++_}
+use lib.Dec.{ltb, eqb}
+use lib.ListN.{length, take, drop}
+use Rattle.sed1520.specs.Choice.{if}
+use Rattle.sed1520.specs.Panel.{Panel}
+use Rattle.trace.specs.Replay.{sizesWrong, replayOf}
+use Rattle.pedralume.specs.ChipRecord.{chipBytes, chipIn, wrongChip}
+use Rattle.trace.specs.Replay as replay
+
+-- the 64-bit number
+abbrev pub packed : ℕ → ℕ → ℕ → ℕ → ℕ
+packed number place compared differing = number + 256 * place + 2 ^ 24 * compared + 2 ^ 40 * differing
+
+-- what the replay's call gives back, and what it leaves in the chip records, the image and the answer buffer
+pub record ReplayCall : Type 0 where
+  pub answer : ℕ
+  pub chips : List ℕ
+  pub ram : List ℕ
+  pub answers : List ℕ
+
+-- what a call gives back and leaves in what it was lent, as one value
+abbrev pub callOf : ℕ → List ℕ → List ℕ → List ℕ → ReplayCall
+callOf answer chips ram answers = record { answer = answer; chips = chips; ram = ram; answers = answers }
+
+-- refused: everything as it came
+abbrev pub refusedCall : ℕ → ℕ → List ℕ → List ℕ → List ℕ → ReplayCall
+refusedCall n at chips ram answers = record { answer = packed n at 0 0; chips = chips; ram = ram; answers = answers }
+
+-- the two chip records and the image as a panel
+abbrev pub panelIn : List ℕ → List ℕ → Panel
+panelIn chips ram = record { left = chipIn (take 12 chips); right = chipIn (drop 12 chips); ram = ram }
+
+-- a replay's outcome, with the chips as records again
+abbrev pub replayed : replay.Outcome → ReplayCall
+replayed o =
+    record {
+      answer = packed (o .number) (o .place) (o .compared) (o .differing);
+      chips = chipBytes (o .panel .left) ++ chipBytes (o .panel .right);
+      ram = o .panel .ram;
+      answers = o .answers;
+    }
+
+-- numbers 1, 2 (with the chip as place) and 3, then the replay
+unfoldable pub replayCall : List ℕ → List ℕ → List ℕ → List ℕ → ReplayCall
+replayCall chips ram trace answers =
+    if (not (eqb (length chips) 24)) (refusedCall 1 0 chips ram answers)
+    (if (sizesWrong (length trace) (length ram) (length answers)) (refusedCall 1 0 chips ram answers)
+    (if (ltb (wrongChip chips) 2) (refusedCall 2 (wrongChip chips) chips ram answers)
+    (if (not (eqb (length trace % 4) 0)) (refusedCall 3 (length trace / 4) chips ram answers)
+    (replayed (replayOf (panelIn chips ram) trace answers)))))

@@ -1,0 +1,3 @@
+pub mod ChipRecord
+pub mod Call
+pub mod Promises

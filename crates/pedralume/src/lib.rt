@@ -1,0 +1,53 @@
+// The calls of the C side, on byte slices and one 64-bit number. The header is host/include/pedralume.h.
+mod chip_record;
+mod packing;
+
+ghost use Prim.Native.Nat.{_≤_};
+ghost use mathlib.Core.Path.{_≡_};
+ghost use lib.ListN.{length};
+ghost use Rattle.trace.specs.Replay.{replayOf};
+ghost use Rattle.pedralume.specs.Call.{panelIn, replayed, replayCall, callOf};
+use crate::chip_record::chip_in;
+use crate::chip_record::chips_out;
+use crate::chip_record::wrong_chip;
+use crate::packing::pack;
+
+// The chip records of both chips.
+const CHIPS_BYTES: usize = 24;
+
+// The replay on chip records that number 2 lets pass, rewritten afterwards.
+fn replay_records(chips: &mut [u8], ram: &mut [u8], trace: &[u8], answers: &mut [u8]) -> u64
+    requires { ⌜ length (now chips) ≡ 24 ⌝ }
+    ensures { λ r. ⌜ callOf r (now (chips .exit)) (now (ram .exit)) (now (answers .exit)) ≡ replayed (replayOf (panelIn (now (chips .entry)) (now (ram .entry))) (now (trace .entry)) (now (answers .entry))) ⌝ }
+{
+    let left = chip_in(&chips[..12]);
+    let right = chip_in(&chips[12..]);
+    let done = trace::replay(left, right, ram, trace, answers);
+    let next_left = done.left;
+    let next_right = done.right;
+    chips_out(next_left, next_right, chips);
+    pack(done.number, done.place, done.compared, done.differing)
+}
+
+// The replay of a trace on two chip records, the image and an answer buffer.
+#[no_mangle]
+pub extern "C" fn pedralume_replay(
+    chips: &mut [u8],
+    ram: &mut [u8],
+    trace: &[u8],
+    answers: &mut [u8],
+) -> u64
+    ensures { λ r. ⌜ callOf r (now (chips .exit)) (now (ram .exit)) (now (answers .exit)) ≡ replayCall (now (chips .entry)) (now (ram .entry)) (now (trace .entry)) (now (answers .entry)) ⌝ }
+{
+    if chips.len() != CHIPS_BYTES {
+        return pack(1, 0, 0, 0);
+    }
+    if trace::sizes_wrong(trace.len(), ram.len(), answers.len()) {
+        return pack(1, 0, 0, 0);
+    }
+    let wrong = wrong_chip(chips);
+    if wrong < 2 {
+        return pack(2, wrong, 0, 0);
+    }
+    replay_records(chips, ram, trace, answers)
+}

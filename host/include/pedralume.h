@@ -1,0 +1,259 @@
+/*
+ * pedralume.h: a model of two SED1520 chips behind one 122 by 32 panel.
+ *
+ * Three calls:
+ *   pedralume_replay   replays a recorded bus trace on both chips
+ *   pedralume_frame    gives the 122 by 32 pixels the panel shows
+ *   pedralume_repaint  writes the bus records that bring a 122 by 16 picture to the panel
+ *
+ * So far the archive has pedralume_replay; the other two are declared for what follows.
+ *
+ * Chip 0 is the left one, chip 1 the right one.
+ *
+ * Words. "Document 01" is the paper that fixes the behaviour. It says "holder" for the read latch,
+ * "room" for repaint's output buffer and "glass" for the panel.
+ *
+ *
+ * WHO OWNS WHAT
+ *
+ * Every buffer is the caller's, before, during and after a call. The library keeps no pointer,
+ * allocates nothing and has no global state: any number of threads may call it at once, each on its
+ * own buffers. Every call ends.
+ *
+ * The caller promises, for each buffer:
+ *   - the pointer is not null, even where the length is 0;
+ *   - that many bytes really are there (writable, where the pointer is not to const);
+ *   - it overlaps no other buffer of the same call.
+ * All else is checked: wrong lengths, impossible chips and damaged records are refused by number.
+ *
+ *
+ * CHIP RECORD, 12 bytes; two of them, left then right, are the 24 bytes of "chips"
+ *
+ *   byte  field                range
+ *    0    display              0 off, 1 on
+ *    1    static drive         0 off, 1 on
+ *    2    duty                 0 = 1/16, 1 = 1/32
+ *    3    ADC                  0 forward, 1 reverse
+ *    4    read-modify-write    0 off, 1 on
+ *    5    page                 0 to 3
+ *    6    start line           0 to 31
+ *    7    column               0 to 127
+ *    8    saved column         0 to 127; 0 while read-modify-write is off
+ *    9    read latch mark      0 stale, 1 fresh
+ *   10    read latch byte      any
+ *   11    -                    0
+ *
+ * A fresh chip is 00 00 01 00 00 00 00 00 00 00 00 00 (PEDRALUME_FRESH_CHIP).
+ *
+ *
+ * RAM IMAGE, 640 bytes
+ *
+ * Byte 320 * chip + 80 * page + column. Bit 0 of a byte is its topmost pixel.
+ *
+ *
+ * TRACE RECORD, 4 bytes: lines, chip, data, 0
+ *
+ *   lines  bit 0 A0, bit 1 RD, bit 2 WR (RD and WR active low), other bits 0:
+ *          2 writes a command, 3 writes data, 4 reads status, 5 reads data
+ *   chip   0 or 1
+ *   data   the byte written, or for a read the byte that the recorder saw
+ *
+ * A trace has no header. It may be empty, and is at most 65,536 bytes long (16,384 records).
+ *
+ * Commands:
+ *   00-7F  column = byte; read latch stale      A0 A1  ADC forward, reverse
+ *   A4 A5  static drive off, on                 A8 A9  duty 1/16, 1/32
+ *   AE AF  display off, on                      B8-BB  page 0 to 3
+ *   C0-DF  start line 0 to 31
+ *   E0     read-modify-write on, saved column = column; already on: no change
+ *   E2     start line, column and page 0, read latch stale; the rest stays
+ *   EE     read-modify-write off, column = saved column, saved column = 0, read latch stale;
+ *          already off: no change
+ * The other 81 bytes are no command. A stale read latch keeps its byte.
+ *
+ * Data write: below column 80 the byte is stored and the column rises by 1; from 80 on nothing is
+ * stored and the column stays.
+ * Data read: the answer is the read latch. Then, below column 80, the latch becomes fresh with the
+ * RAM byte and the column rises by 1 unless read-modify-write is on; from 80 on the latch becomes
+ * stale with the byte it has, and the column stays.
+ * Status read: bit 6 is 1 when ADC is forward, bit 5 is 1 when the display is off, the rest is 0.
+ *
+ *
+ * ANSWERS, 2 bytes for each record: kind, byte
+ *
+ *   kind 0  a write; byte 0
+ *   kind 1  a data read, read latch fresh      (compared with the trace)
+ *   kind 2  a data read, read latch stale      (not compared)
+ *   kind 3  a status read                      (compared with the trace)
+ *
+ *
+ * FRAME, 488 bytes; PICTURE, 244 bytes
+ *
+ * Byte x + 122 * r, bit b, is the pixel at column x (0 to 121), row 8 * r + b. A frame has r 0 to 3.
+ * A picture is laid out as the first 244 bytes of a frame: r 0 and 1. Columns 0 to 60 are the left
+ * chip's, the others the right chip's, and each half is shown by its own chip: dark with the display
+ * off; all lit with the display and static drive on; else its RAM from the start line on, with rows
+ * 16 to 31 dark at duty 1/16.
+ *
+ *
+ * WHAT EACH CALL GIVES BACK: number + 256 * place + 2^24 * compared + 2^40 * differing
+ *
+ * Take it apart with pedralume_number, _place, _compared and _differing below. compared and
+ * differing are 0 for frame and repaint. The lowest number whose cause holds is given; at equal
+ * number the left chip comes before the right one.
+ *
+ *   no.  call  cause                                               place
+ *    0   all   done                                                replay: records replayed;
+ *                                                                  frame: 488; repaint: 254
+ *    1   all   chips not 24 bytes                                  0
+ *        R     trace over 65,536 bytes; RAM not 640; answers       0
+ *              under 2 bytes for each whole record of the trace
+ *        F     RAM not 640; frame not 488                          0
+ *        P     picture not 244; output buffer under 1,016          0
+ *    2   all   a chip record with a field out of its range         chip
+ *    3   R     trace length no multiple of 4                       whole records
+ *    4   R     spare line bits or the fourth byte not 0            record
+ *    5   R     chip over 1                                         record
+ *    6   R     RD and WR equal                                     record
+ *    7   R     a command write with a byte that is no command      record
+ *    8   R     column set (00-7F) while read-modify-write is on    record
+ *    9   P     display off, or static drive on                     chip
+ *   10   P     duty 1/32                                           chip
+ *   11   P     start line neither 0 nor 16                         chip
+ *   12   P     read-modify-write on                                chip
+ *   (R replay, F frame, P repaint. Records count from 0.)
+ *
+ * 1, 2, 3 and 9 to 12: every buffer is as it came.
+ * 4 to 8 at record i: chips, RAM and answers are those after records 0 to i-1, which stand with
+ * their answers; compared and differing count reads before i only; the rest of answers is as it came.
+ *
+ *
+ * EXAMPLE
+ *
+ *   uint8_t chips[PEDRALUME_CHIPS_BYTES] = { PEDRALUME_FRESH_CHIP, PEDRALUME_FRESH_CHIP };
+ *   uint8_t ram[PEDRALUME_RAM_BYTES] = { 0 };
+ *   uint8_t answers[5 * PEDRALUME_ANSWER_BYTES];
+ *   static const uint8_t trace[5 * PEDRALUME_RECORD_BYTES] = {
+ *       PEDRALUME_COMMAND_WRITE, 0, 0x0A, 0,    // left chip: column 10
+ *       PEDRALUME_DATA_WRITE,    0, 0xA5, 0,    // stored, column 11
+ *       PEDRALUME_COMMAND_WRITE, 0, 0x0A, 0,    // column 10 again, read latch stale
+ *       PEDRALUME_DATA_READ,     0, 0x00, 0,    // empty read: kind 2
+ *       PEDRALUME_DATA_READ,     0, 0xA5, 0     // kind 1, A5, as recorded
+ *   };
+ *   uint64_t answer = pedralume_replay(chips, sizeof chips, ram, sizeof ram,
+ *                                      trace, sizeof trace, answers, sizeof answers);
+ *   if (pedralume_number(answer) != PEDRALUME_DONE)
+ *       printf("number %u at %u\n", pedralume_number(answer), pedralume_place(answer));
+ *   else
+ *       printf("%u of %u compared reads differ\n",            // 0 of 1
+ *              pedralume_differing(answer), pedralume_compared(answer));
+ */
+#ifndef PEDRALUME_H
+#define PEDRALUME_H
+
+#include <stddef.h>
+#include <stdint.h>
+
+#ifdef __cplusplus
+extern "C" {
+#endif
+
+/* Sizes in bytes. */
+#define PEDRALUME_CHIP_BYTES 12u
+#define PEDRALUME_CHIPS_BYTES 24u
+#define PEDRALUME_RAM_BYTES 640u
+#define PEDRALUME_RECORD_BYTES 4u
+#define PEDRALUME_ANSWER_BYTES 2u
+#define PEDRALUME_TRACE_MAX_BYTES 65536u
+#define PEDRALUME_FRAME_BYTES 488u
+#define PEDRALUME_PICTURE_BYTES 244u
+#define PEDRALUME_REPAINT_RECORDS 254u
+#define PEDRALUME_REPAINT_BYTES 1016u
+
+/* Initialiser of one fresh chip record. */
+#define PEDRALUME_FRESH_CHIP 0, 0, 1, 0, 0, 0, 0, 0, 0, 0, 0, 0
+
+/* Places of the fields in a chip record. */
+enum {
+    PEDRALUME_DISPLAY = 0,
+    PEDRALUME_STATIC = 1,
+    PEDRALUME_DUTY = 2,
+    PEDRALUME_ADC = 3,
+    PEDRALUME_RMW = 4,
+    PEDRALUME_PAGE = 5,
+    PEDRALUME_START_LINE = 6,
+    PEDRALUME_COLUMN = 7,
+    PEDRALUME_SAVED_COLUMN = 8,
+    PEDRALUME_LATCH_MARK = 9,
+    PEDRALUME_LATCH_BYTE = 10,
+    PEDRALUME_ZERO = 11
+};
+
+/* Lines of the four bus cycles. */
+enum {
+    PEDRALUME_COMMAND_WRITE = 2,
+    PEDRALUME_DATA_WRITE = 3,
+    PEDRALUME_STATUS_READ = 4,
+    PEDRALUME_DATA_READ = 5
+};
+
+/* Kinds of answer. */
+enum {
+    PEDRALUME_KIND_WRITE = 0,
+    PEDRALUME_KIND_FRESH = 1,
+    PEDRALUME_KIND_STALE = 2,
+    PEDRALUME_KIND_STATUS = 3
+};
+
+/* Numbers given back. */
+enum {
+    PEDRALUME_DONE = 0,
+    PEDRALUME_BAD_LENGTH = 1,
+    PEDRALUME_BAD_CHIP = 2,
+    PEDRALUME_TORN_TRACE = 3,
+    PEDRALUME_SPARE_BITS = 4,
+    PEDRALUME_NO_SUCH_CHIP = 5,
+    PEDRALUME_EQUAL_STROBES = 6,
+    PEDRALUME_NO_COMMAND = 7,
+    PEDRALUME_COLUMN_IN_RMW = 8,
+    PEDRALUME_NOT_SHOWING = 9,
+    PEDRALUME_WRONG_DUTY = 10,
+    PEDRALUME_WRONG_START_LINE = 11,
+    PEDRALUME_RMW_ON = 12
+};
+
+static inline unsigned pedralume_number(uint64_t answer) { return (unsigned)(answer & 0xFFu); }
+static inline unsigned pedralume_place(uint64_t answer) { return (unsigned)(answer >> 8 & 0xFFFFu); }
+static inline unsigned pedralume_compared(uint64_t answer) { return (unsigned)(answer >> 24 & 0xFFFFu); }
+static inline unsigned pedralume_differing(uint64_t answer) { return (unsigned)(answer >> 40 & 0xFFFFu); }
+
+/*
+ * Replays the trace. Rewrites chips and RAM to what they are after the last accepted record, and
+ * writes 2 bytes of answers for each accepted record; bytes past these stay.
+ */
+uint64_t pedralume_replay(uint8_t *chips, size_t chips_len,
+                          uint8_t *ram, size_t ram_len,
+                          const uint8_t *trace, size_t trace_len,
+                          uint8_t *answers, size_t answers_len);
+
+/* Writes the 488 bytes of the frame that the panel shows with these chips and this RAM. */
+uint64_t pedralume_frame(const uint8_t *chips, size_t chips_len,
+                         const uint8_t *ram, size_t ram_len,
+                         uint8_t *frame, size_t frame_len);
+
+/*
+ * Writes the 254 trace records (1,016 bytes) that bring the picture to the panel: first the 16 rows
+ * not being shown, last the left and then the right start line. Bytes past these stay. Both chips
+ * must be ready: display on, static drive off, duty 1/16, start line 0 or 16, read-modify-write off.
+ * Sent in order and with nobody else on the bus, the panel keeps what it showed up to record 252 of
+ * 254; after 253 the left half is new, after 254 all of it is, with the lower 16 rows dark.
+ */
+uint64_t pedralume_repaint(const uint8_t *chips, size_t chips_len,
+                           const uint8_t *picture, size_t picture_len,
+                           uint8_t *output, size_t output_len);
+
+#ifdef __cplusplus
+}
+#endif
+
+#endif

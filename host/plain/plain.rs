@@ -1,0 +1,337 @@
+//! Replay, frame and repaint, written plainly from document 01 and for speed. It is what the
+//! archive is compared with and timed against, so it shares nothing with it.
+#![forbid(unsafe_code)]
+
+const CHIP: usize = 12;
+const HALF_RAM: usize = 320;
+const COLUMNS: u8 = 80;
+const SEGMENTS: usize = 61;
+const WIDTH: usize = 2 * SEGMENTS;
+const FRAME: usize = 4 * WIDTH;
+const TRACE_MAX: usize = 65_536;
+const PAGE_RECORDS: usize = 2 + SEGMENTS;
+const REPAINT_RECORDS: usize = 4 * PAGE_RECORDS + 2;
+
+type Halves = [[u8; HALF_RAM]; 2];
+
+/// What a call gives back, before it is packed into 64 bits.
+#[derive(Default)]
+struct Outcome {
+    number: u8,
+    place: usize,
+    compared: u32,
+    differing: u32,
+}
+
+impl Outcome {
+    fn new(number: u8, place: usize) -> Self {
+        Outcome { number, place, ..Self::default() }
+    }
+
+    fn pack(&self) -> u64 {
+        u64::from(self.number)
+            + ((self.place as u64) << 8)
+            + (u64::from(self.compared) << 24)
+            + (u64::from(self.differing) << 40)
+    }
+}
+
+#[derive(Clone, Copy)]
+struct Chip {
+    display: bool,
+    all_lit: bool,
+    duty_32: bool,
+    reverse: bool,
+    rmw: bool,
+    page: u8,
+    start_line: u8,
+    column: u8,
+    saved: u8,
+    latch_fresh: bool,
+    latch: u8,
+}
+
+/// An accepted cycle's answer; the kind is document 01's number for it.
+struct Answer {
+    kind: u8,
+    byte: u8,
+}
+
+const WRITTEN: Answer = Answer { kind: 0, byte: 0 };
+
+impl Chip {
+    fn decode(bytes: &[u8; CHIP]) -> Option<Chip> {
+        const LIMITS: [u8; CHIP] = [1, 1, 1, 1, 1, 3, 31, 127, 127, 1, 255, 0];
+        let in_range = bytes.iter().zip(&LIMITS).all(|(byte, limit)| byte <= limit);
+        let [display, all_lit, duty, adc, rmw, page, start_line, column, saved, mark, latch, _] = *bytes;
+        if !in_range || (rmw == 0 && saved != 0) {
+            return None;
+        }
+        Some(Chip {
+            display: display == 1,
+            all_lit: all_lit == 1,
+            duty_32: duty == 1,
+            reverse: adc == 1,
+            rmw: rmw == 1,
+            page,
+            start_line,
+            column,
+            saved,
+            latch_fresh: mark == 1,
+            latch,
+        })
+    }
+
+    fn encode(&self) -> [u8; CHIP] {
+        [
+            self.display.into(),
+            self.all_lit.into(),
+            self.duty_32.into(),
+            self.reverse.into(),
+            self.rmw.into(),
+            self.page,
+            self.start_line,
+            self.column,
+            self.saved,
+            self.latch_fresh.into(),
+            self.latch,
+            0,
+        ]
+    }
+
+    fn cell(&self) -> usize {
+        usize::from(self.page) * usize::from(COLUMNS) + usize::from(self.column)
+    }
+
+    fn set_column(&mut self, column: u8) {
+        self.column = column;
+        self.latch_fresh = false;
+    }
+
+    fn command(&mut self, byte: u8) -> Result<(), u8> {
+        match byte {
+            0x00..=0x7F if self.rmw => return Err(8),
+            0x00..=0x7F => self.set_column(byte),
+            0xA0 | 0xA1 => self.reverse = byte == 0xA1,
+            0xA4 | 0xA5 => self.all_lit = byte == 0xA5,
+            0xA8 | 0xA9 => self.duty_32 = byte == 0xA9,
+            0xAE | 0xAF => self.display = byte == 0xAF,
+            0xB8..=0xBB => self.page = byte - 0xB8,
+            0xC0..=0xDF => self.start_line = byte - 0xC0,
+            0xE0 => {
+                if !self.rmw {
+                    self.rmw = true;
+                    self.saved = self.column;
+                }
+            }
+            0xE2 => {
+                self.start_line = 0;
+                self.page = 0;
+                self.set_column(0);
+            }
+            0xEE => {
+                if self.rmw {
+                    self.set_column(self.saved);
+                    self.saved = 0;
+                    self.rmw = false;
+                }
+            }
+            _ => return Err(7),
+        }
+        Ok(())
+    }
+
+    fn write(&mut self, ram: &mut [u8; HALF_RAM], byte: u8) {
+        if self.column < COLUMNS {
+            ram[self.cell()] = byte;
+            self.column += 1;
+        }
+    }
+
+    fn read(&mut self, ram: &[u8; HALF_RAM]) -> Answer {
+        let answer = Answer { kind: if self.latch_fresh { 1 } else { 2 }, byte: self.latch };
+        self.latch_fresh = self.column < COLUMNS;
+        if self.latch_fresh {
+            self.latch = ram[self.cell()];
+            self.column += u8::from(!self.rmw);
+        }
+        answer
+    }
+
+    fn status(&self) -> u8 {
+        u8::from(!self.reverse) << 6 | u8::from(!self.display) << 5
+    }
+}
+
+/// The bytes as `M` rows of `N`, if there are exactly that many.
+fn table<const N: usize, const M: usize>(bytes: &[u8]) -> Option<&[[u8; N]; M]> {
+    let (rows, rest) = bytes.as_chunks();
+    if rest.is_empty() { rows.try_into().ok() } else { None }
+}
+
+fn table_mut<const N: usize, const M: usize>(bytes: &mut [u8]) -> Option<&mut [[u8; N]; M]> {
+    let (rows, rest) = bytes.as_chunks_mut();
+    if rest.is_empty() { rows.try_into().ok() } else { None }
+}
+
+/// Both chips, or the refusal of the first bad one.
+fn decode_chips(records: &[[u8; CHIP]; 2]) -> Result<[Chip; 2], Outcome> {
+    let left = Chip::decode(&records[0]).ok_or(Outcome::new(2, 0))?;
+    let right = Chip::decode(&records[1]).ok_or(Outcome::new(2, 1))?;
+    Ok([left, right])
+}
+
+/// One record, or the number that refuses it. A refusal changes nothing.
+#[inline]
+fn cycle(chips: &mut [Chip; 2], ram: &mut Halves, record: &[u8; 4]) -> Result<Answer, u8> {
+    let [lines, which, data, zero] = *record;
+    if lines > 7 || zero != 0 {
+        return Err(4);
+    }
+    let which = usize::from(which);
+    let (Some(chip), Some(ram)) = (chips.get_mut(which), ram.get_mut(which)) else {
+        return Err(5);
+    };
+    match lines {
+        2 => chip.command(data).map(|()| WRITTEN),
+        3 => {
+            chip.write(ram, data);
+            Ok(WRITTEN)
+        }
+        4 => Ok(Answer { kind: 3, byte: chip.status() }),
+        5 => Ok(chip.read(ram)),
+        _ => Err(6),
+    }
+}
+
+fn run(chips: &mut [Chip; 2], ram: &mut Halves, trace: &[[u8; 4]], answers: &mut [[u8; 2]]) -> Outcome {
+    let (mut compared, mut differing) = (0u32, 0u32);
+    for (place, (record, slot)) in trace.iter().zip(answers).enumerate() {
+        match cycle(chips, ram, record) {
+            Ok(Answer { kind, byte }) => {
+                *slot = [kind, byte];
+                let counts = kind & 1;
+                compared += u32::from(counts);
+                differing += u32::from(counts & u8::from(byte != record[2]));
+            }
+            Err(number) => return Outcome { number, place, compared, differing },
+        }
+    }
+    Outcome { number: 0, place: trace.len(), compared, differing }
+}
+
+fn try_replay(chips: &mut [u8], ram: &mut [u8], trace: &[u8], answers: &mut [u8]) -> Result<Outcome, Outcome> {
+    let (records, rest) = trace.as_chunks();
+    let slots = answers.as_chunks_mut().0;
+    let (Some(chips), Some(ram)) = (table_mut(chips), table_mut(ram)) else {
+        return Err(Outcome::new(1, 0));
+    };
+    if trace.len() > TRACE_MAX || slots.len() < records.len() {
+        return Err(Outcome::new(1, 0));
+    }
+    let mut state = decode_chips(chips)?;
+    if !rest.is_empty() {
+        return Err(Outcome::new(3, records.len()));
+    }
+    let outcome = run(&mut state, ram, records, slots);
+    *chips = state.map(|chip| chip.encode());
+    Ok(outcome)
+}
+
+/// Shows one chip's RAM in its half of the frame, whose columns begin at `left`.
+fn show(chip: &Chip, ram: &[u8; HALF_RAM], rows: &mut [[u8; WIDTH]; 4], left: usize) {
+    let (keep, lit) = match (chip.display, chip.all_lit, chip.duty_32) {
+        (false, _, _) => (0, 0),
+        (true, true, _) => (0, !0),
+        (true, false, false) => (0xFFFF, 0),
+        (true, false, true) => (!0, 0),
+    };
+    for segment in 0..SEGMENTS {
+        let column = if chip.reverse { 79 - segment } else { segment };
+        // Bit n is RAM line n, and after the turn row n of the frame.
+        let lines = u32::from_le_bytes([ram[column], ram[80 + column], ram[160 + column], ram[240 + column]]);
+        let shown = lines.rotate_right(u32::from(chip.start_line)) & keep | lit;
+        for (row, byte) in rows.iter_mut().zip(shown.to_le_bytes()) {
+            row[left + segment] = byte;
+        }
+    }
+}
+
+fn try_frame(chips: &[u8], ram: &[u8], frame: &mut [u8]) -> Result<Outcome, Outcome> {
+    let (Some(chips), Some(ram), Some(rows)) = (table(chips), table(ram), table_mut(frame)) else {
+        return Err(Outcome::new(1, 0));
+    };
+    let [left, right] = decode_chips(chips)?;
+    let [left_ram, right_ram] = ram;
+    show(&left, left_ram, rows, 0);
+    show(&right, right_ram, rows, SEGMENTS);
+    Ok(Outcome::new(0, FRAME))
+}
+
+/// Refuses by the lowest number that keeps either chip from being repainted.
+fn check_ready(state: &[Chip; 2]) -> Result<(), Outcome> {
+    let causes: [(u8, fn(&Chip) -> bool); 4] = [
+        (9, |chip| !chip.display || chip.all_lit),
+        (10, |chip| chip.duty_32),
+        (11, |chip| chip.start_line != 0 && chip.start_line != 16),
+        (12, |chip| chip.rmw),
+    ];
+    for (number, holds) in causes {
+        if let Some(place) = state.iter().position(holds) {
+            return Err(Outcome::new(number, place));
+        }
+    }
+    Ok(())
+}
+
+/// The 63 records that bring one picture row to one hidden page of a chip.
+fn paint_page(records: &mut [[u8; 4]], chip: &Chip, which: u8, page: u8, pixels: &[u8]) {
+    let column = if chip.reverse { 19 } else { 0 };
+    records[0] = [2, which, 0xB8 + page, 0];
+    records[1] = [2, which, column, 0];
+    for (n, record) in records[2..].iter_mut().enumerate() {
+        let segment = if chip.reverse { SEGMENTS - 1 - n } else { n };
+        *record = [3, which, pixels[segment], 0];
+    }
+}
+
+fn try_repaint(chips: &[u8], picture: &[u8], room: &mut [u8]) -> Result<Outcome, Outcome> {
+    let (Some(chips), Some(picture)) = (table(chips), table::<WIDTH, 2>(picture)) else {
+        return Err(Outcome::new(1, 0));
+    };
+    let Some(records) = room.as_chunks_mut().0.get_mut(..REPAINT_RECORDS) else {
+        return Err(Outcome::new(1, 0));
+    };
+    let state = decode_chips(chips)?;
+    check_ready(&state)?;
+
+    let (pages, turns) = records.split_at_mut(4 * PAGE_RECORDS);
+    for (n, page_records) in pages.chunks_exact_mut(PAGE_RECORDS).enumerate() {
+        let (which, row) = (n / 2, n % 2);
+        let chip = &state[which];
+        let hidden = if chip.start_line == 0 { 2 } else { 0 };
+        let pixels = &picture[row][which * SEGMENTS..][..SEGMENTS];
+        paint_page(page_records, chip, which as u8, hidden + row as u8, pixels);
+    }
+    for (which, chip) in state.iter().enumerate() {
+        turns[which] = [2, which as u8, 0xC0 + (16 - chip.start_line), 0];
+    }
+    Ok(Outcome::new(0, REPAINT_RECORDS))
+}
+
+fn pack(outcome: Result<Outcome, Outcome>) -> u64 {
+    let (Ok(outcome) | Err(outcome)) = outcome;
+    outcome.pack()
+}
+
+pub fn replay(chips: &mut [u8], ram: &mut [u8], trace: &[u8], answers: &mut [u8]) -> u64 {
+    pack(try_replay(chips, ram, trace, answers))
+}
+
+pub fn frame(chips: &[u8], ram: &[u8], frame: &mut [u8]) -> u64 {
+    pack(try_frame(chips, ram, frame))
+}
+
+pub fn repaint(chips: &[u8], picture: &[u8], room: &mut [u8]) -> u64 {
+    pack(try_repaint(chips, picture, room))
+}

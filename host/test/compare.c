@@ -1,0 +1,659 @@
+/*
+ * Drives the archive and the plain implementation side by side on random calls, and compares every
+ * byte lent, guard bytes around it, and the 64-bit answers. With repaint it also sends random lists
+ * of repaints through the archive, cycle by cycle, and holds them to demand 3.
+ *
+ *   compare [seed [cases]]
+ *
+ * Case i of a seed is the same whatever the number of cases.
+ */
+#include "support.h"
+
+enum { GUARD = 32, MOST_FAILURES = 20, NUMBERS = 13 };
+
+static unsigned failures;
+
+static void fail(const char *where, unsigned long at, const char *what)
+{
+    printf("compare: %s %lu: %s\n", where, at, what);
+    if (++failures < MOST_FAILURES)
+        return;
+    printf("compare: too many failures, stopped\n");
+    exit(EXIT_FAILURE);
+}
+
+static void *have(void *block)
+{
+    if (block != NULL)
+        return block;
+    printf("compare: out of memory\n");
+    exit(EXIT_FAILURE);
+}
+
+/* ---- lent buffers, with guard bytes on both sides ---- */
+
+struct lent {
+    uint8_t *block, *bytes;
+    size_t len;
+    uint8_t guard;
+};
+
+static struct lent lend(const uint8_t *from, size_t len, uint8_t guard)
+{
+    struct lent l = { have(malloc(len + 2 * GUARD)), NULL, len, guard };
+    l.bytes = l.block + GUARD;
+    memset(l.block, guard, len + 2 * GUARD);
+    if (len > 0)
+        memcpy(l.bytes, from, len);
+    return l;
+}
+
+static bool guards_stand(const struct lent *l)
+{
+    for (size_t i = 0; i < GUARD; i++)
+        if (l->block[i] != l->guard || l->bytes[l->len + i] != l->guard)
+            return false;
+    return true;
+}
+
+/* ---- one call on both sides ---- */
+
+/* What one call is lent. Replay: chips, RAM, trace, answers. Frame and repaint: chips, source, output. */
+enum { PARTS = 4, PART_TRACE = 2, PART_ANSWERS = 3, PART_OUTPUT = 2 };
+
+struct bundle {
+    struct lent part[PARTS];
+};
+
+static struct bundle copy_bundle(const struct bundle *from, size_t parts, uint8_t guard)
+{
+    struct bundle b;
+    for (size_t i = 0; i < parts; i++)
+        b.part[i] = lend(from->part[i].bytes, from->part[i].len, guard);
+    return b;
+}
+
+static void free_bundle(struct bundle *b, size_t parts)
+{
+    for (size_t i = 0; i < parts; i++)
+        free(b->part[i].block);
+}
+
+struct contest {
+    const char *name;
+    size_t parts;
+    bool constant[PARTS];
+    replay_call *replay[2];                 /* archive, plain; either these two */
+    paint_call *paint[2];                   /* or these */
+    const char *part_name[PARTS];
+};
+
+static uint64_t call(const struct contest *c, int side, struct bundle *b)
+{
+    struct lent *p = b->part;
+    if (c->replay[side] != NULL)
+        return c->replay[side](p[0].bytes, p[0].len, p[1].bytes, p[1].len, p[2].bytes, p[2].len, p[3].bytes, p[3].len);
+    return c->paint[side](p[0].bytes, p[0].len, p[1].bytes, p[1].len, p[2].bytes, p[2].len);
+}
+
+struct tally {
+    unsigned long calls, number[NUMBERS], records, compared, differing;
+};
+
+static void count(struct tally *t, uint64_t answer)
+{
+    unsigned number = pedralume_number(answer);
+    t->calls++;
+    if (number < NUMBERS)
+        t->number[number]++;
+    if (number == 0 || (number >= 4 && number <= 8))
+        t->records += pedralume_place(answer);
+    t->compared += pedralume_compared(answer);
+    t->differing += pedralume_differing(answer);
+}
+
+static bool same_part(const struct bundle *a, const struct bundle *b, size_t i)
+{
+    return memcmp(a->part[i].bytes, b->part[i].bytes, a->part[i].len) == 0;
+}
+
+/* Fails with the part's name in front. */
+static void fail_part(const struct contest *c, unsigned long at, size_t part, const char *what)
+{
+    char text[80];
+    snprintf(text, sizeof text, "%s bytes %s", c->part_name[part], what);
+    fail(c->name, at, text);
+}
+
+/* Numbers 1 to 3 and 9 to 12 leave everything as it came. */
+static bool leaves_all(uint64_t answer)
+{
+    unsigned number = pedralume_number(answer);
+    return (number >= 1 && number <= 3) || number >= 9;
+}
+
+static void check_parts(const struct contest *c, unsigned long at, const struct bundle *given,
+                        const struct bundle *archive, const struct bundle *plain, bool all_stay)
+{
+    for (size_t i = 0; i < c->parts; i++) {
+        if (!same_part(archive, plain, i))
+            fail_part(c, at, i, "differ from the plain implementation's");
+        if ((c->constant[i] || all_stay) && !same_part(archive, given, i))
+            fail_part(c, at, i, "changed but must stay");
+        if (!guards_stand(&archive->part[i]))
+            fail_part(c, at, i, "written out of bounds by the archive");
+        if (!guards_stand(&plain->part[i]))
+            fail_part(c, at, i, "written out of bounds by the plain implementation");
+    }
+}
+
+/* Bytes past the answers given, or past the 254 records, stay. */
+static void check_tail(const struct contest *c, unsigned long at, const struct bundle *given,
+                       const struct bundle *archive, uint64_t answer)
+{
+    size_t part = c->replay[0] != NULL ? PART_ANSWERS : PART_OUTPUT;
+    size_t used = pedralume_place(answer) * (size_t)(c->replay[0] != NULL ? 2 : 4);
+    const struct lent *a = &archive->part[part], *g = &given->part[part];
+    if (leaves_all(answer) || used >= a->len)
+        return;
+    if (memcmp(a->bytes + used, g->bytes + used, a->len - used) != 0)
+        fail_part(c, at, part, "changed past the last that is due");
+}
+
+/* The two sides get different guard bytes, so that reading out of bounds tends to show as well. */
+static void contend(const struct contest *c, unsigned long at, const struct bundle *given, struct tally *t)
+{
+    struct bundle archive = copy_bundle(given, c->parts, 0xA5), plain = copy_bundle(given, c->parts, 0x03);
+    uint64_t got = call(c, 0, &archive), want = call(c, 1, &plain);
+    if (got != want) {
+        fail(c->name, at, "answers differ");
+        print_answer("archive", got);
+        print_answer("plain", want);
+        printf("\n");
+    }
+    check_parts(c, at, given, &archive, &plain, leaves_all(want));
+    check_tail(c, at, given, &archive, want);
+    count(t, want);
+    free_bundle(&archive, c->parts);
+    free_bundle(&plain, c->parts);
+}
+
+/* A draw that never reaches a number of the call would prove little: that is a failure too. */
+static void report(const struct contest *c, const struct tally *t, const bool *due)
+{
+    printf("compare: %s: %lu calls, by number", c->name, t->calls);
+    for (unsigned number = 0; number < NUMBERS; number++)
+        if (due[number])
+            printf(" %u:%lu", number, t->number[number]);
+    if (c->replay[0] != NULL)
+        printf("; %lu records accepted, %lu reads compared, %lu differing", t->records, t->compared, t->differing);
+    printf("\n");
+    for (unsigned number = 0; number < NUMBERS; number++)
+        if (due[number] && t->number[number] == 0)
+            fail(c->name, number, "number never given, draw more cases");
+}
+
+static struct rng rng_for(uint64_t seed, uint64_t stream, uint64_t at)
+{
+    struct rng g = { seed ^ stream << 56 };
+    g.state = rng_next(&g) + at * 0xD1342543DE82EF95u;
+    rng_next(&g);
+    return g;
+}
+
+/* ---- damaged chips and lengths ---- */
+
+static void spoil_chip(struct rng *g, uint8_t *chip)
+{
+    unsigned field = below(g, CHIP);
+    if (field == PEDRALUME_LATCH_BYTE) {
+        chip[PEDRALUME_RMW] = 0;
+        chip[PEDRALUME_SAVED_COLUMN] = (uint8_t)between(g, 1, 127);
+    } else {
+        chip[field] = (uint8_t)(one_in(g, 2) ? field_limit[field] + 1u : between(g, field_limit[field] + 1u, 255));
+    }
+}
+
+/* Left, right or both. */
+static void spoil_chips(struct rng *g, uint8_t *chips)
+{
+    unsigned which = between(g, 1, 3);
+    for (unsigned chip = 0; chip < 2; chip++)
+        if (which >> chip & 1)
+            spoil_chip(g, chips + CHIP * chip);
+}
+
+/* Any length from 0 to most but the right one, often next to it. */
+static size_t wrong_length(struct rng *g, unsigned right, unsigned most)
+{
+    unsigned len = one_in(g, 3) ? right + 1 : one_in(g, 2) ? right - 1 : below(g, most + 1);
+    return len == right ? 0 : len;
+}
+
+/* Fills a source that is long enough for any wrong length. */
+static struct lent lend_padded(struct rng *g, const uint8_t *bytes, size_t have_len, size_t len)
+{
+    uint8_t padded[2048];
+    random_bytes(g, padded, sizeof padded);
+    memcpy(padded, bytes, have_len);
+    return lend(padded, len, 0);
+}
+
+/* ---- random replays ---- */
+
+static size_t draw_record_count(struct rng *g)
+{
+    unsigned roll = below(g, 200);
+    if (roll < 8)
+        return 0;
+    if (roll < 50)
+        return between(g, 1, 12);
+    if (roll < 190)
+        return between(g, 13, 400);
+    if (roll < 197)
+        return between(g, 401, RECORDS_MAX);
+    if (roll < 199)
+        return RECORDS_MAX;
+    return between(g, RECORDS_MAX + 1, RECORDS_MAX + 1000);
+}
+
+static unsigned draw_non_command(struct rng *g)
+{
+    unsigned byte;
+    do
+        byte = between(g, 0x80, 0xFF);
+    while (is_command(byte));
+    return byte;
+}
+
+/* Turns record i into a column set, and the one before it into the command that forbids it. */
+static void damage_by_mode(struct trace *t, struct rng *g, size_t i)
+{
+    uint8_t *at = t->bytes + RECORD * i;
+    unsigned chip = at[1] & 1u;
+    const uint8_t set[RECORD] = { PEDRALUME_COMMAND_WRITE, (uint8_t)chip, (uint8_t)below(g, 128), 0 };
+    const uint8_t mode[RECORD] = { PEDRALUME_COMMAND_WRITE, (uint8_t)chip, 0xE0, 0 };
+    memcpy(at, set, RECORD);
+    if (i > 0)
+        memcpy(at - RECORD, mode, RECORD);
+}
+
+static void damage_record(struct trace *t, struct rng *g, size_t i)
+{
+    static const uint8_t equal_strobes[] = { 0, 1, 6, 7 };
+    uint8_t *at = t->bytes + RECORD * i;
+    switch (below(g, 6)) {
+    case 0:
+        at[0] = (uint8_t)(at[0] | between(g, 1, 31) << 3);
+        break;
+    case 1:
+        at[3] = (uint8_t)between(g, 1, 255);
+        break;
+    case 2:
+        at[1] = (uint8_t)(one_in(g, 2) ? 2 : between(g, 2, 255));
+        break;
+    case 3:
+        at[0] = equal_strobes[below(g, 4)];
+        break;
+    case 4:
+        at[0] = PEDRALUME_COMMAND_WRITE;
+        at[2] = (uint8_t)draw_non_command(g);
+        break;
+    default:
+        damage_by_mode(t, g, i);
+    }
+}
+
+/* One record gets one to three faults, so that their order is tried too. */
+static void damage_trace(struct trace *t, struct rng *g)
+{
+    size_t i = below(g, (unsigned)(t->len / RECORD));
+    for (unsigned faults = one_in(g, 2) ? 1 : between(g, 2, 3); faults > 0; faults--)
+        damage_record(t, g, i);
+}
+
+/* Records with fields that are right each by itself most of the time, but not drawn to be accepted. */
+static void put_noise(struct trace *t, struct rng *g, size_t records)
+{
+    for (size_t i = 0; i < records; i++)
+        put_record(t, one_in(g, 40) ? below(g, 256) : between(g, 2, 5), one_in(g, 40) ? below(g, 256) : below(g, 2),
+                   below(g, 256), one_in(g, 60));
+}
+
+static void draw_trace(struct trace *t, struct rng *g, const uint8_t *chips, const uint8_t *ram)
+{
+    size_t records = draw_record_count(g);
+    t->len = 0;
+    if (one_in(g, 12))
+        put_noise(t, g, records);
+    else
+        put_valid(t, g, chips, records);
+    if (records > 0 && one_in(g, 3))
+        damage_trace(t, g);
+    settle_reads(t, g, chips, ram);
+    if (one_in(g, 16)) {
+        unsigned torn = between(g, 1, 3);
+        random_bytes(g, t->bytes + t->len, torn);
+        t->len += torn;
+    }
+}
+
+/* Mostly exact or longer; too short where there is room for that. */
+static size_t draw_answers_length(struct rng *g, size_t exact)
+{
+    if (exact > 0 && one_in(g, 25))
+        return one_in(g, 2) ? exact - 1 : below(g, (unsigned)exact);
+    return one_in(g, 2) ? exact : exact + below(g, 200);
+}
+
+static void draw_replay(struct rng *g, struct bundle *b)
+{
+    static struct trace t;
+    static uint8_t answers[2 * RECORDS_MAX + 4096];
+    uint8_t chips[CHIPS], ram[RAM];
+    draw_chips(g, chips);
+    random_bytes(g, ram, RAM);
+    draw_trace(&t, g, chips, ram);
+    size_t answers_len = draw_answers_length(g, t.len / RECORD * 2);
+    random_bytes(g, answers, answers_len);
+    if (one_in(g, 12))
+        spoil_chips(g, chips);
+    b->part[0] = lend_padded(g, chips, CHIPS, one_in(g, 50) ? wrong_length(g, CHIPS, 64) : CHIPS);
+    b->part[1] = lend_padded(g, ram, RAM, one_in(g, 50) ? wrong_length(g, RAM, 1300) : RAM);
+    b->part[PART_TRACE] = lend(t.bytes, t.len, 0);
+    b->part[PART_ANSWERS] = lend(answers, answers_len, 0);
+}
+
+static void compare_replays(uint64_t seed, unsigned long cases)
+{
+    static const struct contest contest = {
+        "replay", 4, { false, false, true, false }, { pedralume_replay, plain_replay }, { NULL, NULL },
+        { "chips", "RAM", "trace", "answers" }
+    };
+    static const bool due[NUMBERS] = { 1, 1, 1, 1, 1, 1, 1, 1, 1, 0, 0, 0, 0 };
+    struct tally tally = { 0 };
+    for (unsigned long at = 0; at < cases; at++) {
+        struct rng g = rng_for(seed, 1, at);
+        struct bundle given;
+        draw_replay(&g, &given);
+        contend(&contest, at, &given, &tally);
+        free_bundle(&given, contest.parts);
+    }
+    report(&contest, &tally, due);
+}
+
+#ifdef WITH_FRAME
+
+/* ---- random frames ---- */
+
+/*
+ * The left chip walks through every start line with every setting of display, static drive, duty and
+ * ADC, over and over; the right chip walks too, at another pace.
+ */
+static void walk_chip(uint8_t *chip, unsigned long step)
+{
+    for (unsigned field = 0; field < 4; field++)
+        chip[field] = step >> (5 + field) & 1;
+    chip[PEDRALUME_START_LINE] = step % 32;
+}
+
+static void draw_frame(struct rng *g, unsigned long at, struct bundle *b)
+{
+    uint8_t chips[CHIPS], ram[RAM], frame[FRAME];
+    draw_chips(g, chips);
+    walk_chip(chips, at);
+    walk_chip(chips + CHIP, at * 37 + at / 512);
+    random_bytes(g, ram, RAM);
+    random_bytes(g, frame, FRAME);
+    if (one_in(g, 12))
+        spoil_chips(g, chips);
+    b->part[0] = lend_padded(g, chips, CHIPS, one_in(g, 40) ? wrong_length(g, CHIPS, 64) : CHIPS);
+    b->part[1] = lend_padded(g, ram, RAM, one_in(g, 40) ? wrong_length(g, RAM, 1300) : RAM);
+    b->part[PART_OUTPUT] = lend_padded(g, frame, FRAME, one_in(g, 40) ? wrong_length(g, FRAME, 1000) : FRAME);
+}
+
+static void compare_frames(uint64_t seed, unsigned long cases)
+{
+    static const struct contest contest = {
+        "frame", 3, { true, true, false }, { NULL, NULL }, { pedralume_frame, plain_frame },
+        { "chips", "RAM", "frame", "" }
+    };
+    static const bool due[NUMBERS] = { 1, 1, 1 };
+    struct tally tally = { 0 };
+    for (unsigned long at = 0; at < cases; at++) {
+        struct rng g = rng_for(seed, 2, at);
+        struct bundle given;
+        draw_frame(&g, at, &given);
+        contend(&contest, at, &given, &tally);
+        free_bundle(&given, contest.parts);
+    }
+    report(&contest, &tally, due);
+}
+
+#endif
+
+#ifdef WITH_REPAINT
+
+/* ---- random repaints ---- */
+
+static bool is_ready(const uint8_t *chip)
+{
+    return chip[PEDRALUME_DISPLAY] == 1 && chip[PEDRALUME_STATIC] == 0 && chip[PEDRALUME_DUTY] == 0 &&
+           (chip[PEDRALUME_START_LINE] == 0 || chip[PEDRALUME_START_LINE] == 16) && chip[PEDRALUME_RMW] == 0;
+}
+
+static void draw_ready_chip(struct rng *g, uint8_t *chip)
+{
+    draw_chip(g, chip);
+    chip[PEDRALUME_DISPLAY] = 1;
+    chip[PEDRALUME_STATIC] = chip[PEDRALUME_DUTY] = chip[PEDRALUME_RMW] = chip[PEDRALUME_SAVED_COLUMN] = 0;
+    chip[PEDRALUME_START_LINE] = one_in(g, 2) ? 0 : 16;
+}
+
+/* Takes one to three things away that a ready chip has. */
+static void unready_chip(struct rng *g, uint8_t *chip)
+{
+    for (unsigned faults = between(g, 1, 3); faults > 0; faults--)
+        switch (below(g, 5)) {
+        case 0:
+            chip[PEDRALUME_DISPLAY] = 0;
+            break;
+        case 1:
+            chip[PEDRALUME_STATIC] = 1;
+            break;
+        case 2:
+            chip[PEDRALUME_DUTY] = 1;
+            break;
+        case 3:
+            chip[PEDRALUME_START_LINE] = (uint8_t)below(g, 32);
+            break;
+        default:
+            chip[PEDRALUME_RMW] = 1;
+            chip[PEDRALUME_SAVED_COLUMN] = (uint8_t)below(g, 128);
+        }
+}
+
+static size_t draw_output_length(struct rng *g)
+{
+    if (one_in(g, 20))
+        return one_in(g, 2) ? REPAINT - 1 : below(g, REPAINT);
+    return one_in(g, 2) ? REPAINT : REPAINT + below(g, 200);
+}
+
+static size_t draw_picture_length(struct rng *g)
+{
+    return one_in(g, 20) ? wrong_length(g, PICTURE, 600) : PICTURE;
+}
+
+static void draw_repaint(struct rng *g, struct bundle *b)
+{
+    uint8_t chips[CHIPS], picture[PICTURE], output[REPAINT];
+    for (unsigned chip = 0; chip < 2; chip++) {
+        draw_ready_chip(g, chips + CHIP * chip);
+        if (one_in(g, 4))
+            unready_chip(g, chips + CHIP * chip);
+    }
+    random_bytes(g, picture, PICTURE);
+    random_bytes(g, output, REPAINT);
+    if (one_in(g, 12))
+        spoil_chips(g, chips);
+    b->part[0] = lend_padded(g, chips, CHIPS, one_in(g, 40) ? wrong_length(g, CHIPS, 64) : CHIPS);
+    b->part[1] = lend_padded(g, picture, PICTURE, draw_picture_length(g));
+    b->part[PART_OUTPUT] = lend_padded(g, output, REPAINT, draw_output_length(g));
+}
+
+static void compare_repaints(uint64_t seed, unsigned long cases)
+{
+    static const struct contest contest = {
+        "repaint", 3, { true, true, false }, { NULL, NULL }, { pedralume_repaint, plain_repaint },
+        { "chips", "picture", "output", "" }
+    };
+    static const bool due[NUMBERS] = { 1, 1, 1, 0, 0, 0, 0, 0, 0, 1, 1, 1, 1 };
+    struct tally tally = { 0 };
+    for (unsigned long at = 0; at < cases; at++) {
+        struct rng g = rng_for(seed, 3, at);
+        struct bundle given;
+        draw_repaint(&g, &given);
+        contend(&contest, at, &given, &tally);
+        free_bundle(&given, contest.parts);
+    }
+    report(&contest, &tally, due);
+}
+
+/* ---- demand 3: lists of repaints, each stopped anywhere, through the archive alone ---- */
+
+struct desk {
+    uint8_t chips[CHIPS], ram[RAM];
+    unsigned long list, repaints, refused, cycles;
+    size_t sent;                            /* cycles of the present repaint */
+};
+
+static void fail_list(const struct desk *d, const char *what)
+{
+    char text[128];
+    snprintf(text, sizeof text, "repaint %lu (of all lists), after %zu cycles: %s", d->repaints, d->sent, what);
+    fail("list", d->list, text);
+}
+
+static void take_frame(const struct desk *d, uint8_t *frame)
+{
+    uint64_t answer = pedralume_frame(d->chips, CHIPS, d->ram, RAM, frame, FRAME);
+    if (answer != answer_of(0, FRAME, 0, 0))
+        fail_list(d, "frame refused");
+}
+
+/* Gives one record to the cycle, as a replay of one. */
+static void send_record(struct desk *d, const uint8_t *record)
+{
+    uint8_t answer[2] = { 0xEE, 0xEE };
+    uint64_t got = pedralume_replay(d->chips, CHIPS, d->ram, RAM, record, RECORD, answer, sizeof answer);
+    d->sent++;
+    d->cycles++;
+    if (got != answer_of(0, 1, 0, 0) || answer[0] != PEDRALUME_KIND_WRITE || answer[1] != 0)
+        fail_list(d, "cycle not accepted");
+}
+
+static bool same_half(const uint8_t *a, const uint8_t *b, unsigned chip)
+{
+    for (unsigned r = 0; r < 4; r++) {
+        size_t at = WIDTH * r + HALF_WIDTH * chip;
+        if (memcmp(a + at, b + at, HALF_WIDTH) != 0)
+            return false;
+    }
+    return true;
+}
+
+/* What the panel must show after the cycles sent. */
+static void check_shown(const struct desk *d, const uint8_t *before, const uint8_t *wanted)
+{
+    uint8_t now[FRAME];
+    take_frame(d, now);
+    if (!same_half(now, d->sent >= 253 ? wanted : before, 0))
+        fail_list(d, "the left half shows what it must not");
+    if (!same_half(now, d->sent >= 254 ? wanted : before, 1))
+        fail_list(d, "the right half shows what it must not");
+    if (!is_ready(d->chips) || !is_ready(d->chips + CHIP))
+        fail_list(d, "a chip is not ready");
+}
+
+/* Calls repaint on both sides; gives whether it was done. It is refused exactly by wrong lengths. */
+static bool call_repaint(struct desk *d, const uint8_t *picture, size_t picture_len, uint8_t *output, size_t output_len)
+{
+    uint8_t plain[REPAINT + 200];
+    bool accept = picture_len == PICTURE && output_len >= REPAINT;
+    memcpy(plain, output, output_len);
+    uint64_t got = pedralume_repaint(d->chips, CHIPS, picture, picture_len, output, output_len);
+    uint64_t want = plain_repaint(d->chips, CHIPS, picture, picture_len, plain, output_len);
+    d->sent = 0;
+    d->repaints++;
+    d->refused += !accept;
+    if (got != want || got != (accept ? answer_of(0, REPAINT_RECORDS, 0, 0) : answer_of(1, 0, 0, 0)))
+        fail_list(d, "repaint refused or accepted wrongly");
+    if (memcmp(output, plain, output_len) != 0)
+        fail_list(d, "records differ from the plain implementation's");
+    return accept;
+}
+
+/* One repaint of a list: sends the given number of its cycles and looks at the panel after each. */
+static void run_repaint(struct desk *d, struct rng *g, size_t picture_len, size_t output_len, size_t stop)
+{
+    uint8_t picture[1024], output[REPAINT + 200], before[FRAME], wanted[FRAME] = { 0 };
+    random_bytes(g, picture, sizeof picture);
+    random_bytes(g, output, output_len);
+    memcpy(wanted, picture, PICTURE);
+    take_frame(d, before);
+    bool done = call_repaint(d, picture, picture_len, output, output_len);
+    check_shown(d, before, wanted);
+    while (done && d->sent < stop) {
+        send_record(d, output + RECORD * d->sent);
+        check_shown(d, before, wanted);
+    }
+}
+
+static size_t draw_stop(struct rng *g)
+{
+    return one_in(g, 2) ? between(g, 250, REPAINT_RECORDS) : between(g, 0, REPAINT_RECORDS);
+}
+
+/* The list ends with a repaint that is sent whole: from wherever the list came, it must show. */
+static void run_list(struct desk *d, struct rng *g)
+{
+    draw_ready_chip(g, d->chips);
+    draw_ready_chip(g, d->chips + CHIP);
+    random_bytes(g, d->ram, RAM);
+    for (unsigned left = below(g, 6); left > 0; left--)
+        run_repaint(d, g, draw_picture_length(g), draw_output_length(g), draw_stop(g));
+    run_repaint(d, g, PICTURE, REPAINT, REPAINT_RECORDS);
+}
+
+static void run_lists(uint64_t seed, unsigned long lists)
+{
+    struct desk desk = { { 0 }, { 0 }, 0, 0, 0, 0, 0 };
+    for (desk.list = 0; desk.list < lists; desk.list++) {
+        struct rng g = rng_for(seed, 4, desk.list);
+        run_list(&desk, &g);
+    }
+    printf("compare: lists: %lu lists of %lu repaints, %lu refused, %lu cycles with their frames\n",
+           lists, desk.repaints, desk.refused, desk.cycles);
+    if (desk.refused == 0)
+        fail("list", 0, "no repaint refused, draw more lists");
+}
+
+#endif
+
+int main(int argc, char **argv)
+{
+    uint64_t seed = argc > 1 ? strtoull(argv[1], NULL, 0) : 1520;
+    unsigned long cases = argc > 2 ? strtoul(argv[2], NULL, 0) : 24000;
+    printf("compare: seed %llu, %lu cases\n", (unsigned long long)seed, cases);
+    compare_replays(seed, cases);
+#ifdef WITH_FRAME
+    compare_frames(seed, cases);
+#endif
+#ifdef WITH_REPAINT
+    compare_repaints(seed, cases);
+    run_lists(seed, cases / 24);
+#endif
+    printf("compare: %u failed\n", failures);
+    return failures == 0 ? EXIT_SUCCESS : EXIT_FAILURE;
+}

@@ -1,0 +1,235 @@
+/*
+ * What test.c, compare.c and bench.c share: random numbers, traces, random states, the plain
+ * implementation's names. Everything is static inline, so that each program takes what it needs.
+ */
+#ifndef SUPPORT_H
+#define SUPPORT_H
+
+#include "pedralume.h"
+
+#include <stdbool.h>
+#include <stdio.h>
+#include <stdlib.h>
+#include <string.h>
+
+#if defined(WITH_REPAINT) && !defined(WITH_FRAME)
+#error "a repaint is judged by its frames: CALLS needs frame where it has repaint"
+#endif
+
+enum {
+    CHIP = PEDRALUME_CHIP_BYTES,
+    CHIPS = PEDRALUME_CHIPS_BYTES,
+    RAM = PEDRALUME_RAM_BYTES,
+    HALF_RAM = RAM / 2,
+    RECORD = PEDRALUME_RECORD_BYTES,
+    TRACE_MAX = PEDRALUME_TRACE_MAX_BYTES,
+    RECORDS_MAX = TRACE_MAX / RECORD,
+    FRAME = PEDRALUME_FRAME_BYTES,
+    PICTURE = PEDRALUME_PICTURE_BYTES,
+    REPAINT_RECORDS = PEDRALUME_REPAINT_RECORDS,
+    REPAINT = PEDRALUME_REPAINT_BYTES,
+    WIDTH = 122,
+    HALF_WIDTH = 61
+};
+
+/* Highest value of each field of a chip record. */
+static const uint8_t field_limit[CHIP] = { 1, 1, 1, 1, 1, 3, 31, 127, 127, 1, 255, 0 };
+
+/* The plain implementation. Frame and repaint have the same shape of call. */
+typedef uint64_t replay_call(uint8_t *, size_t, uint8_t *, size_t, const uint8_t *, size_t, uint8_t *, size_t);
+typedef uint64_t paint_call(const uint8_t *, size_t, const uint8_t *, size_t, uint8_t *, size_t);
+extern replay_call plain_replay;
+extern paint_call plain_frame;
+extern paint_call plain_repaint;
+
+/* ---- answers ---- */
+
+static inline uint64_t answer_of(unsigned number, size_t place, unsigned compared, unsigned differing)
+{
+    return (uint64_t)number + ((uint64_t)place << 8) + ((uint64_t)compared << 24) + ((uint64_t)differing << 40);
+}
+
+static inline void print_answer(const char *label, uint64_t answer)
+{
+    printf(" %s %u %u %u %u", label, pedralume_number(answer), pedralume_place(answer),
+           pedralume_compared(answer), pedralume_differing(answer));
+}
+
+/* ---- random numbers: splitmix64 ---- */
+
+struct rng {
+    uint64_t state;
+};
+
+static inline uint64_t rng_next(struct rng *g)
+{
+    uint64_t z = (g->state += 0x9E3779B97F4A7C15u);
+    z = (z ^ (z >> 30)) * 0xBF58476D1CE4E5B9u;
+    z = (z ^ (z >> 27)) * 0x94D049BB133111EBu;
+    return z ^ (z >> 31);
+}
+
+/* 0 to n-1. */
+static inline unsigned below(struct rng *g, unsigned n)
+{
+    return (unsigned)((rng_next(g) >> 32) * n >> 32);
+}
+
+/* low to high, both included. */
+static inline unsigned between(struct rng *g, unsigned low, unsigned high)
+{
+    return low + below(g, high - low + 1);
+}
+
+static inline bool one_in(struct rng *g, unsigned n)
+{
+    return below(g, n) == 0;
+}
+
+static inline uint8_t random_byte(struct rng *g)
+{
+    return (uint8_t)below(g, 256);
+}
+
+static inline void random_bytes(struct rng *g, uint8_t *bytes, size_t len)
+{
+    for (size_t i = 0; i < len; i++)
+        bytes[i] = random_byte(g);
+}
+
+/* ---- traces ---- */
+
+struct trace {
+    size_t len;
+    uint8_t bytes[TRACE_MAX + 4096];
+};
+
+static inline void put_record(struct trace *t, unsigned lines, unsigned chip, unsigned data, unsigned last)
+{
+    uint8_t *at = t->bytes + t->len;
+    at[0] = (uint8_t)lines;
+    at[1] = (uint8_t)chip;
+    at[2] = (uint8_t)data;
+    at[3] = (uint8_t)last;
+    t->len += RECORD;
+}
+
+static inline void put_command(struct trace *t, unsigned chip, unsigned byte)
+{
+    put_record(t, PEDRALUME_COMMAND_WRITE, chip, byte, 0);
+}
+
+static inline void put_write(struct trace *t, unsigned chip, unsigned byte)
+{
+    put_record(t, PEDRALUME_DATA_WRITE, chip, byte, 0);
+}
+
+static inline void put_read(struct trace *t, unsigned chip, unsigned seen)
+{
+    put_record(t, PEDRALUME_DATA_READ, chip, seen, 0);
+}
+
+static inline void put_status(struct trace *t, unsigned chip, unsigned seen)
+{
+    put_record(t, PEDRALUME_STATUS_READ, chip, seen, 0);
+}
+
+static inline bool is_command(unsigned byte)
+{
+    static const uint8_t range[][2] = {
+        { 0x00, 0x7F }, { 0xA0, 0xA1 }, { 0xA4, 0xA5 }, { 0xA8, 0xA9 }, { 0xAE, 0xAF },
+        { 0xB8, 0xBB }, { 0xC0, 0xDF }, { 0xE0, 0xE0 }, { 0xE2, 0xE2 }, { 0xEE, 0xEE },
+    };
+    for (size_t i = 0; i < sizeof range / sizeof range[0]; i++)
+        if (byte >= range[i][0] && byte <= range[i][1])
+            return true;
+    return false;
+}
+
+/* ---- random states ---- */
+
+/* A chip record that number 2 lets pass; its column is mostly one that has RAM. */
+static inline void draw_chip(struct rng *g, uint8_t *chip)
+{
+    for (size_t i = 0; i < CHIP; i++)
+        chip[i] = (uint8_t)below(g, field_limit[i] + 1u);
+    if (!one_in(g, 4))
+        chip[PEDRALUME_COLUMN] = (uint8_t)below(g, 80);
+    if (!one_in(g, 4))
+        chip[PEDRALUME_RMW] = 0;
+    if (chip[PEDRALUME_RMW] == 0)
+        chip[PEDRALUME_SAVED_COLUMN] = 0;
+}
+
+static inline void draw_chips(struct rng *g, uint8_t *chips)
+{
+    draw_chip(g, chips);
+    draw_chip(g, chips + CHIP);
+}
+
+/* Any command but column set and those that switch read-modify-write. */
+static inline unsigned draw_plain_command(struct rng *g)
+{
+    static const uint8_t first[] = { 0xA0, 0xA4, 0xA8, 0xAE, 0xB8, 0xC0, 0xE2 };
+    static const uint8_t count[] = { 2, 2, 2, 2, 4, 32, 1 };
+    unsigned i = below(g, sizeof first);
+    return first[i] + below(g, count[i]);
+}
+
+static inline void put_column_or_end(struct trace *t, struct rng *g, unsigned chip, bool *rmw)
+{
+    if (*rmw) {
+        put_command(t, chip, 0xEE);
+        *rmw = false;
+    } else {
+        put_command(t, chip, one_in(g, 10) ? below(g, 128) : below(g, 80));
+    }
+}
+
+/*
+ * Appends records that are all accepted from this state. That depends on one thing only: which
+ * chips are in read-modify-write. Reads are recorded as 0; settle_reads puts better bytes there.
+ */
+static inline void put_valid(struct trace *t, struct rng *g, const uint8_t *chips, size_t records)
+{
+    bool rmw[2] = { chips[PEDRALUME_RMW] != 0, chips[CHIP + PEDRALUME_RMW] != 0 };
+    unsigned chip = below(g, 2);
+    for (size_t i = 0; i < records; i++) {
+        unsigned roll = below(g, 100);
+        if (one_in(g, 6))
+            chip = 1 - chip;
+        if (roll < 36) {
+            put_write(t, chip, random_byte(g));
+        } else if (roll < 68) {
+            put_read(t, chip, 0);
+        } else if (roll < 75) {
+            put_status(t, chip, 0);
+        } else if (roll < 85) {
+            put_column_or_end(t, g, chip, &rmw[chip]);
+        } else if (roll < 89) {
+            put_command(t, chip, 0xE0);
+            rmw[chip] = true;
+        } else if (roll < 91) {
+            put_command(t, chip, 0xEE);
+            rmw[chip] = false;
+        } else {
+            put_command(t, chip, draw_plain_command(g));
+        }
+    }
+}
+
+/* Gives each read that is answered the answered byte half of the time, and a random byte else. */
+static inline void settle_reads(struct trace *t, struct rng *g, const uint8_t *chips, const uint8_t *ram)
+{
+    static uint8_t answers[2 * RECORDS_MAX];
+    uint8_t chips_then[CHIPS], ram_then[RAM];
+    memcpy(chips_then, chips, CHIPS);
+    memcpy(ram_then, ram, RAM);
+    size_t whole = t->len / RECORD * RECORD;
+    uint64_t answer = plain_replay(chips_then, CHIPS, ram_then, RAM, t->bytes, whole, answers, sizeof answers);
+    for (size_t i = 0; i < pedralume_place(answer); i++)
+        if (answers[2 * i] != PEDRALUME_KIND_WRITE)
+            t->bytes[RECORD * i + 2] = one_in(g, 2) ? answers[2 * i + 1] : random_byte(g);
+}
+
+#endif

@@ -1,0 +1,979 @@
+/*
+ * Walks the table of numbers and the checked examples of document 01 through the archive. What is
+ * expected is written out here from the document, not taken from any implementation.
+ */
+#include "support.h"
+
+/* Bytes past the longest buffer any call may take; they must stay too. */
+enum { SLACK = 16, ANSWERS = 2 * RECORDS_MAX };
+
+static unsigned checks, failures;
+
+static void check(bool good, int line, const char *what)
+{
+    checks++;
+    if (good)
+        return;
+    failures++;
+    printf("test.c:%d: failed: %s\n", line, what);
+}
+
+static void check_answer(uint64_t got, uint64_t want, int line)
+{
+    checks++;
+    if (got == want)
+        return;
+    failures++;
+    printf("test.c:%d: failed:", line);
+    print_answer("want", want);
+    print_answer("got", got);
+    printf("\n");
+}
+
+#define CHECK(condition) check((condition), __LINE__, #condition)
+#define CHECK_ANSWER(got, number, place, compared, differing) \
+    check_answer((got), answer_of((number), (place), (compared), (differing)), __LINE__)
+
+/* ---- what a replay is lent ---- */
+
+struct rig {
+    uint8_t chips[CHIPS + SLACK];
+    uint8_t ram[RAM + SLACK];
+    uint8_t answers[ANSWERS + SLACK];
+};
+
+static bool same_rig(const struct rig *a, const struct rig *b)
+{
+    return memcmp(a, b, sizeof *a) == 0;
+}
+
+static void fresh_chips(uint8_t *chips)
+{
+    static const uint8_t fresh[CHIPS] = { PEDRALUME_FRESH_CHIP, PEDRALUME_FRESH_CHIP };
+    memcpy(chips, fresh, CHIPS);
+}
+
+static void fresh_rig(struct rig *r)
+{
+    memset(r, 0xEE, sizeof *r);
+    fresh_chips(r->chips);
+    memset(r->ram, 0, RAM);
+}
+
+/* Every field away from its fresh value, every RAM byte told from its neighbours. */
+static void busy_rig(struct rig *r, bool rmw)
+{
+    static const uint8_t busy[CHIP] = { 1, 1, 0, 1, 1, 2, 9, 33, 7, 1, 0x5C, 0 };
+    fresh_rig(r);
+    for (unsigned chip = 0; chip < 2; chip++) {
+        uint8_t *c = r->chips + CHIP * chip;
+        memcpy(c, busy, CHIP);
+        c[PEDRALUME_COLUMN] = (uint8_t)(33 + chip);
+        if (!rmw)
+            c[PEDRALUME_RMW] = c[PEDRALUME_SAVED_COLUMN] = 0;
+    }
+    for (unsigned i = 0; i < RAM; i++)
+        r->ram[i] = (uint8_t)(i * 7 + i / 256 + 1);
+}
+
+static uint64_t replay(struct rig *r, const struct trace *t)
+{
+    return pedralume_replay(r->chips, CHIPS, r->ram, RAM, t->bytes, t->len, r->answers, sizeof r->answers);
+}
+
+static uint64_t replay_record(struct rig *r, unsigned lines, unsigned chip, unsigned data, unsigned last)
+{
+    static struct trace t;
+    t.len = 0;
+    put_record(&t, lines, chip, data, last);
+    return replay(r, &t);
+}
+
+static uint64_t command(struct rig *r, unsigned chip, unsigned byte)
+{
+    return replay_record(r, PEDRALUME_COMMAND_WRITE, chip, byte, 0);
+}
+
+static uint64_t write_data(struct rig *r, unsigned chip, unsigned byte)
+{
+    return replay_record(r, PEDRALUME_DATA_WRITE, chip, byte, 0);
+}
+
+/* Kind * 256 + byte of one read. */
+static unsigned read_by(struct rig *r, unsigned lines, unsigned chip)
+{
+    CHECK(pedralume_number(replay_record(r, lines, chip, 0, 0)) == 0);
+    return r->answers[0] * 256u + r->answers[1];
+}
+
+static unsigned read_data(struct rig *r, unsigned chip)
+{
+    return read_by(r, PEDRALUME_DATA_READ, chip);
+}
+
+static unsigned read_status(struct rig *r, unsigned chip)
+{
+    return read_by(r, PEDRALUME_STATUS_READ, chip);
+}
+
+/* ---- answers taken apart ---- */
+
+static void test_apart(void)
+{
+    uint64_t answer = 8u + 256u * 16384u + (((uint64_t)16383u) << 24) + (((uint64_t)16382u) << 40);
+    CHECK(pedralume_number(answer) == PEDRALUME_COLUMN_IN_RMW);
+    CHECK(pedralume_place(answer) == 16384);
+    CHECK(pedralume_compared(answer) == 16383);
+    CHECK(pedralume_differing(answer) == 16382);
+}
+
+/* ---- the printed listing ---- */
+
+static void print_listing(char *text, size_t room, const uint8_t *answers, uint64_t end)
+{
+    size_t used = 0;
+    for (unsigned i = 0; i < pedralume_place(end); i++)
+        used += (size_t)snprintf(text + used, room - used, "%u %u %02X\n", i, answers[2 * i], answers[2 * i + 1]);
+    snprintf(text + used, room - used, "end %u %u %u %u\n", pedralume_number(end), pedralume_place(end),
+             pedralume_compared(end), pedralume_differing(end));
+}
+
+static void test_listing(void)
+{
+    static const uint8_t bytes[] = {
+        0x02, 0x00, 0xB9, 0x00, 0x02, 0x00, 0x4F, 0x00, 0x03, 0x00, 0xA5, 0x00,
+        0x03, 0x00, 0x3C, 0x00, 0x02, 0x00, 0x4F, 0x00, 0x05, 0x00, 0x00, 0x00,
+        0x05, 0x00, 0xA5, 0x00, 0x05, 0x00, 0xA5, 0x00, 0x04, 0x00, 0xA0, 0x00,
+    };
+    static const char listing[] = "0 0 00\n1 0 00\n2 0 00\n3 0 00\n4 0 00\n"
+                                  "5 2 00\n6 1 A5\n7 2 A5\n8 3 60\nend 0 9 2 1\n";
+    static const uint8_t left[CHIP] = { 0, 0, 1, 0, 0, 1, 0, 80, 0, 0, 0xA5, 0 };
+    static struct rig r, want;
+    char text[256];
+    fresh_rig(&r);
+    want = r;
+    uint64_t answer = pedralume_replay(r.chips, CHIPS, r.ram, RAM, bytes, sizeof bytes, r.answers, sizeof r.answers);
+    CHECK_ANSWER(answer, 0, 9, 2, 1);
+    print_listing(text, sizeof text, r.answers, answer);
+    CHECK(strcmp(text, listing) == 0);
+
+    memcpy(want.chips, left, CHIP);
+    want.ram[80 + 79] = 0xA5;
+    memcpy(want.answers, (const uint8_t[18]){ 0, 0, 0, 0, 0, 0, 0, 0, 0, 0, 2, 0, 1, 0xA5, 2, 0xA5, 3, 0x60 }, 18);
+    CHECK(same_rig(&r, &want));
+}
+
+/* ---- checked examples that replay alone can show ---- */
+
+static void test_column_stop(void)
+{
+    static struct rig r, before;
+    fresh_rig(&r);                                                  /* P1 */
+    command(&r, 0, 79);
+    CHECK_ANSWER(write_data(&r, 0, 0xA5), 0, 1, 0, 0);
+    CHECK(r.ram[79] == 0xA5 && r.chips[PEDRALUME_COLUMN] == 80);
+    before = r;                                                     /* P2 */
+    CHECK_ANSWER(write_data(&r, 0, 0x3C), 0, 1, 0, 0);
+    CHECK(same_rig(&r, &before));
+    fresh_rig(&r);                                                  /* P3 */
+    command(&r, 0, 100);
+    before = r;
+    CHECK_ANSWER(write_data(&r, 0, 0xFF), 0, 1, 0, 0);
+    CHECK(same_rig(&r, &before) && r.chips[PEDRALUME_COLUMN] == 100);
+}
+
+static void test_mode_examples(void)
+{
+    static struct rig r, before;
+    fresh_rig(&r);                                                  /* P4 */
+    CHECK(read_status(&r, 0) == 0x360);
+    command(&r, 0, 0xAF);
+    command(&r, 0, 0xA1);
+    CHECK(read_status(&r, 0) == 0x300);
+    CHECK(read_status(&r, 1) == 0x360);
+
+    fresh_rig(&r);                                                  /* P6 */
+    command(&r, 0, 10);
+    command(&r, 0, 0xE0);
+    CHECK(read_data(&r, 0) == 0x200);
+    CHECK(read_data(&r, 0) == 0x100);
+    CHECK(r.chips[PEDRALUME_COLUMN] == 10);
+    write_data(&r, 0, 0x42);
+    CHECK(r.ram[10] == 0x42 && r.chips[PEDRALUME_COLUMN] == 11);
+    command(&r, 0, 0xEE);
+    CHECK(r.chips[PEDRALUME_COLUMN] == 10 && r.chips[PEDRALUME_SAVED_COLUMN] == 0);
+    CHECK(r.chips[PEDRALUME_RMW] == 0 && r.chips[PEDRALUME_LATCH_MARK] == 0);
+
+    fresh_rig(&r);                                                  /* P7 */
+    command(&r, 0, 0xE0);
+    before = r;
+    CHECK_ANSWER(command(&r, 0, 0x05), 8, 0, 0, 0);
+    CHECK(same_rig(&r, &before));
+}
+
+static void test_byte_examples(void)
+{
+    static const uint8_t none[] = { 0x80, 0xAC, 0xBC, 0xE3 };
+    static struct rig r;
+    fresh_rig(&r);                                                  /* P10 */
+    for (size_t i = 0; i < sizeof none; i++)
+        CHECK_ANSWER(command(&r, 0, none[i]), 7, 0, 0, 0);
+    CHECK_ANSWER(command(&r, 0, 0xDF), 0, 1, 0, 0);
+    CHECK(r.chips[PEDRALUME_START_LINE] == 31);
+    CHECK_ANSWER(replay_record(&r, 0, 0, 0, 0), 6, 0, 0, 0);        /* P11 */
+    CHECK_ANSWER(replay_record(&r, 6, 0, 0, 0), 6, 0, 0, 0);
+    CHECK_ANSWER(replay_record(&r, 8, 2, 0, 0), 4, 0, 0, 0);
+}
+
+/* ---- every cycle ---- */
+
+/* Does the command to the record as the table of commands says; gives the number. */
+static unsigned expect_command(uint8_t *chip, unsigned byte)
+{
+    static const struct { uint8_t first, last, field; } set[] = {
+        { 0xA0, 0xA1, PEDRALUME_ADC },     { 0xA4, 0xA5, PEDRALUME_STATIC }, { 0xA8, 0xA9, PEDRALUME_DUTY },
+        { 0xAE, 0xAF, PEDRALUME_DISPLAY }, { 0xB8, 0xBB, PEDRALUME_PAGE },   { 0xC0, 0xDF, PEDRALUME_START_LINE },
+    };
+    bool rmw = chip[PEDRALUME_RMW] == 1;
+    for (size_t i = 0; i < sizeof set / sizeof set[0]; i++)
+        if (byte >= set[i].first && byte <= set[i].last)
+            chip[set[i].field] = (uint8_t)(byte - set[i].first);
+    if (byte <= 0x7F && rmw)
+        return 8;
+    if (byte <= 0x7F) {
+        chip[PEDRALUME_COLUMN] = (uint8_t)byte;
+        chip[PEDRALUME_LATCH_MARK] = 0;
+    } else if (byte == 0xE0 && !rmw) {
+        chip[PEDRALUME_RMW] = 1;
+        chip[PEDRALUME_SAVED_COLUMN] = chip[PEDRALUME_COLUMN];
+    } else if (byte == 0xE2) {
+        chip[PEDRALUME_START_LINE] = chip[PEDRALUME_COLUMN] = chip[PEDRALUME_PAGE] = chip[PEDRALUME_LATCH_MARK] = 0;
+    } else if (byte == 0xEE && rmw) {
+        chip[PEDRALUME_COLUMN] = chip[PEDRALUME_SAVED_COLUMN];
+        chip[PEDRALUME_SAVED_COLUMN] = chip[PEDRALUME_RMW] = chip[PEDRALUME_LATCH_MARK] = 0;
+    }
+    return is_command(byte) ? 0 : 7;
+}
+
+static void test_all_commands(void)
+{
+    static struct rig r, want;
+    unsigned commands = 0;
+    for (unsigned byte = 0; byte < 256; byte++) {
+        commands += is_command(byte);
+        for (unsigned way = 0; way < 4; way++) {
+            unsigned chip = way % 2;
+            busy_rig(&r, way / 2 == 1);
+            want = r;
+            unsigned number = expect_command(want.chips + CHIP * chip, byte);
+            if (number == 0)
+                want.answers[0] = want.answers[1] = 0;
+            CHECK_ANSWER(command(&r, chip, byte), number, number == 0, 0, 0);
+            CHECK(same_rig(&r, &want));
+        }
+    }
+    CHECK(commands == 175);
+}
+
+/* A busy rig with this cell addressed, latch fresh or stale. */
+static uint8_t *address(struct rig *r, unsigned chip, unsigned page, unsigned column, bool rmw, bool fresh)
+{
+    busy_rig(r, rmw);
+    uint8_t *c = r->chips + CHIP * chip;
+    c[PEDRALUME_PAGE] = (uint8_t)page;
+    c[PEDRALUME_COLUMN] = (uint8_t)column;
+    c[PEDRALUME_LATCH_MARK] = fresh;
+    return c;
+}
+
+static void test_write_at(unsigned chip, unsigned page, unsigned column, bool rmw, bool fresh)
+{
+    static struct rig r, want;
+    address(&r, chip, page, column, rmw, fresh);
+    uint8_t *c = address(&want, chip, page, column, rmw, fresh);
+    want.answers[0] = want.answers[1] = 0;
+    if (column < 80) {
+        want.ram[HALF_RAM * chip + 80 * page + column] = 0x96;
+        c[PEDRALUME_COLUMN] = (uint8_t)(column + 1);
+    }
+    CHECK_ANSWER(write_data(&r, chip, 0x96), 0, 1, 0, 0);
+    CHECK(same_rig(&r, &want));
+}
+
+static void test_read_at(unsigned chip, unsigned page, unsigned column, bool rmw, bool fresh)
+{
+    static struct rig r, want;
+    address(&r, chip, page, column, rmw, fresh);
+    uint8_t *c = address(&want, chip, page, column, rmw, fresh);
+    want.answers[0] = fresh ? 1 : 2;
+    want.answers[1] = 0x5C;
+    c[PEDRALUME_LATCH_MARK] = column < 80;
+    if (column < 80) {
+        c[PEDRALUME_LATCH_BYTE] = want.ram[HALF_RAM * chip + 80 * page + column];
+        c[PEDRALUME_COLUMN] = (uint8_t)(column + !rmw);
+    }
+    CHECK_ANSWER(replay_record(&r, PEDRALUME_DATA_READ, chip, 0x5D, 0), 0, 1, fresh, fresh);
+    CHECK(same_rig(&r, &want));
+}
+
+static void test_all_cells(void)
+{
+    for (unsigned way = 0; way < 8; way++)
+        for (unsigned page = 0; page < 4; page++)
+            for (unsigned column = 0; column < 128; column += way == 0 || column > 76 ? 1 : 5) {
+                test_write_at(way & 1, page, column, way & 2, way & 4);
+                test_read_at(way & 1, page, column, way & 2, way & 4);
+            }
+}
+
+static void test_all_status(void)
+{
+    static struct rig r, want;
+    for (unsigned way = 0; way < 8; way++) {
+        unsigned chip = way & 1, display = way >> 1 & 1, reverse = way >> 2 & 1;
+        busy_rig(&r, true);
+        r.chips[CHIP * chip + PEDRALUME_DISPLAY] = (uint8_t)display;
+        r.chips[CHIP * chip + PEDRALUME_ADC] = (uint8_t)reverse;
+        want = r;
+        want.answers[0] = 3;
+        want.answers[1] = (uint8_t)((reverse ? 0 : 0x40) + (display ? 0 : 0x20));
+        CHECK_ANSWER(replay_record(&r, PEDRALUME_STATUS_READ, chip, want.answers[1], 0), 0, 1, 1, 0);
+        CHECK(same_rig(&r, &want));
+    }
+}
+
+/* ---- numbers 4 to 8 ---- */
+
+/* Ten records: four reads compared, two of them differing; leaves the left chip in read-modify-write. */
+static void put_prelude(struct trace *t)
+{
+    put_command(t, 0, 0xB9);
+    put_command(t, 0, 0x04);
+    put_write(t, 0, 0x77);
+    put_command(t, 0, 0x04);
+    put_command(t, 0, 0xE0);
+    put_read(t, 0, 0xFF);                                           /* stale: not compared */
+    put_read(t, 0, 0x77);
+    put_read(t, 0, 0x78);
+    put_status(t, 1, 0x60);
+    put_status(t, 1, 0x61);
+}
+
+struct bad_record {
+    uint8_t lines, chip, data, last, number;
+};
+
+/* Sent after the prelude. Those with several faults show which number comes first. */
+static const struct bad_record bad_records[] = {
+    { 0x0A, 0, 0xAF, 0, 4 }, { 0x12, 0, 0xAF, 0, 4 }, { 0x22, 0, 0xAF, 0, 4 }, { 0x42, 0, 0xAF, 0, 4 },
+    { 0x82, 0, 0xAF, 0, 4 }, { 2, 0, 0xAF, 1, 4 },    { 3, 1, 0, 0x80, 4 },    { 4, 0, 0, 0xFF, 4 },
+    { 8, 2, 0, 0, 4 },       { 0xFF, 0xFF, 0xFF, 0xFF, 4 },  { 2, 0, 0x80, 1, 4 },    { 0, 2, 0x05, 1, 4 },
+    { 2, 2, 0xAF, 0, 5 },    { 3, 255, 0, 0, 5 },     { 4, 128, 0, 0, 5 },     { 5, 3, 0, 0, 5 },
+    { 0, 2, 0, 0, 5 },       { 7, 2, 0, 0, 5 },       { 2, 2, 0x80, 0, 5 },
+    { 0, 0, 0xAF, 0, 6 },    { 1, 1, 0, 0, 6 },       { 6, 0, 0, 0, 6 },       { 7, 1, 0, 0, 6 },
+    { 0, 0, 0x80, 0, 6 },    { 0, 0, 0x05, 0, 6 },    { 6, 0, 0x05, 0, 6 },
+    { 2, 0, 0x80, 0, 7 },    { 2, 1, 0xFF, 0, 7 },    { 2, 0, 0xA2, 0, 7 },    { 2, 1, 0xE1, 0, 7 },
+    { 2, 0, 0x00, 0, 8 },    { 2, 0, 0x05, 0, 8 },    { 2, 0, 0x7F, 0, 8 },
+};
+
+static void put_bad(struct trace *t, const struct bad_record *bad)
+{
+    put_record(t, bad->lines, bad->chip, bad->data, bad->last);
+}
+
+static void test_refused_after_prelude(const struct bad_record *bad)
+{
+    static struct trace t;
+    static struct rig r, want;
+    t.len = 0;
+    put_prelude(&t);
+    fresh_rig(&want);
+    CHECK_ANSWER(replay(&want, &t), 0, 10, 4, 2);
+    put_bad(&t, bad);
+    put_write(&t, 0, 0xDD);
+    put_status(&t, 0, 0);
+    fresh_rig(&r);
+    CHECK_ANSWER(replay(&r, &t), bad->number, 10, 4, 2);
+    CHECK(same_rig(&r, &want));
+}
+
+static void test_refused_at_once(const struct bad_record *bad)
+{
+    static struct rig r, want;
+    busy_rig(&r, true);
+    want = r;
+    CHECK_ANSWER(replay_record(&r, bad->lines, bad->chip, bad->data, bad->last), bad->number, 0, 0, 0);
+    CHECK(same_rig(&r, &want));
+}
+
+static void test_refused_records(void)
+{
+    for (size_t i = 0; i < sizeof bad_records / sizeof bad_records[0]; i++) {
+        test_refused_after_prelude(&bad_records[i]);
+        test_refused_at_once(&bad_records[i]);
+    }
+}
+
+/* The first refused record ends the replay, whatever the numbers of later ones. */
+static void test_first_refusal_wins(void)
+{
+    static struct trace t;
+    static struct rig r;
+    t.len = 0;
+    put_command(&t, 0, 0xE0);
+    put_command(&t, 0, 0x05);
+    put_record(&t, 8, 0, 0, 0);
+    fresh_rig(&r);
+    CHECK_ANSWER(replay(&r, &t), 8, 1, 0, 0);
+}
+
+/* ---- numbers 1 to 3 ---- */
+
+struct lengths {
+    size_t chips, ram, trace, answers;
+};
+
+static uint64_t replay_lengths(struct rig *r, const struct trace *t, struct lengths len)
+{
+    return pedralume_replay(r->chips, len.chips, r->ram, len.ram, t->bytes, len.trace, r->answers, len.answers);
+}
+
+/* Refused with this number and place, and nothing changes. */
+static void test_stays(const struct rig *given, const struct trace *t, struct lengths len, unsigned number, size_t place)
+{
+    static struct rig r;
+    r = *given;
+    CHECK_ANSWER(replay_lengths(&r, t, len), number, place, 0, 0);
+    CHECK(same_rig(&r, given));
+}
+
+/* The prelude, which would change much if it were replayed. */
+static const struct trace *prelude(void)
+{
+    static struct trace t;
+    memset(&t, 0, sizeof t);
+    put_prelude(&t);
+    return &t;
+}
+
+static void test_bad_lengths(void)
+{
+    static const size_t chips[] = { 0, 12, 23, 25, 36 }, ram[] = { 0, 320, 639, 641 }, answers[] = { 0, 1, 18, 19 };
+    static const size_t trace[] = { TRACE_MAX + 1, TRACE_MAX + 2, TRACE_MAX + 4, TRACE_MAX + 400 };
+    const struct trace *t = prelude();
+    static struct rig r;
+    fresh_rig(&r);
+    for (size_t i = 0; i < sizeof chips / sizeof chips[0]; i++)
+        test_stays(&r, t, (struct lengths){ chips[i], RAM, t->len, ANSWERS }, 1, 0);
+    for (size_t i = 0; i < sizeof ram / sizeof ram[0]; i++)
+        test_stays(&r, t, (struct lengths){ CHIPS, ram[i], t->len, ANSWERS }, 1, 0);
+    for (size_t i = 0; i < sizeof answers / sizeof answers[0]; i++)
+        test_stays(&r, t, (struct lengths){ CHIPS, RAM, t->len, answers[i] }, 1, 0);
+    for (size_t i = 0; i < sizeof trace / sizeof trace[0]; i++)
+        test_stays(&r, t, (struct lengths){ CHIPS, RAM, trace[i], ANSWERS + SLACK }, 1, 0);
+    r.chips[CHIP + PEDRALUME_ZERO] = 1;                             /* 1 before 2 and 3 */
+    test_stays(&r, t, (struct lengths){ CHIPS, RAM - 1, t->len - 1, ANSWERS }, 1, 0);
+    test_stays(&r, t, (struct lengths){ CHIPS, RAM, t->len + 3, 19 }, 1, 0);
+}
+
+/* The record of one chip with one field out of range: number 2 with the chip as place. */
+static void test_bad_field(unsigned chip, unsigned field, unsigned value)
+{
+    const struct trace *t = prelude();
+    static struct rig r;
+    const struct lengths len = { CHIPS, RAM, t->len, ANSWERS };
+    busy_rig(&r, true);
+    r.chips[CHIP * chip + field] = (uint8_t)value;
+    test_stays(&r, t, len, 2, chip);
+    test_stays(&r, t, (struct lengths){ CHIPS, RAM, t->len - 1, ANSWERS }, 2, chip);    /* 2 before 3 */
+    test_stays(&r, t, (struct lengths){ CHIPS, RAM, 0, 0 }, 2, chip);
+}
+
+/* The field's highest value passes. */
+static void test_field_limit(unsigned chip, unsigned field)
+{
+    static const struct trace empty = { 0, { 0 } };
+    static struct rig r;
+    busy_rig(&r, true);
+    r.chips[CHIP * chip + field] = field_limit[field];
+    test_stays(&r, &empty, (struct lengths){ CHIPS, RAM, 0, 0 }, 0, 0);
+}
+
+static void test_bad_chips(void)
+{
+    for (unsigned chip = 0; chip < 2; chip++)
+        for (unsigned field = 0; field < CHIP; field++) {
+            test_field_limit(chip, field);
+            if (field == PEDRALUME_LATCH_BYTE)
+                continue;
+            test_bad_field(chip, field, field_limit[field] + 1u);
+            test_bad_field(chip, field, 255);
+        }
+    static struct rig r;
+    const struct trace *t = prelude();
+    const struct lengths len = { CHIPS, RAM, t->len, ANSWERS };
+    for (unsigned chip = 0; chip < 2; chip++) {                     /* saved column with the mode off */
+        fresh_rig(&r);
+        r.chips[CHIP * chip + PEDRALUME_SAVED_COLUMN] = 1;
+        test_stays(&r, t, len, 2, chip);
+    }
+    r.chips[PEDRALUME_COLUMN] = 128;                                /* both: left before right */
+    test_stays(&r, t, len, 2, 0);
+}
+
+static void test_torn_traces(void)
+{
+    static struct trace t;
+    static struct rig r;
+    t = *prelude();
+    fresh_rig(&r);
+    for (size_t len = 0; len <= t.len; len++)
+        if (len % RECORD != 0)
+            test_stays(&r, &t, (struct lengths){ CHIPS, RAM, len, len / RECORD * 2 }, 3, len / RECORD);
+    test_stays(&r, &t, (struct lengths){ CHIPS, RAM, TRACE_MAX - 1, ANSWERS }, 3, RECORDS_MAX - 1);
+    t.bytes[0] = 0xFF;                                              /* 3 before 4 */
+    test_stays(&r, &t, (struct lengths){ CHIPS, RAM, 7, ANSWERS }, 3, 1);
+}
+
+/* ---- number 0 ---- */
+
+static void test_empty_trace(void)
+{
+    static const struct trace t = { 0, { 0 } };
+    static struct rig r;
+    for (unsigned rmw = 0; rmw < 2; rmw++) {
+        busy_rig(&r, rmw == 1);
+        test_stays(&r, &t, (struct lengths){ CHIPS, RAM, 0, 0 }, 0, 0);
+        test_stays(&r, &t, (struct lengths){ CHIPS, RAM, 0, ANSWERS }, 0, 0);
+    }
+}
+
+/* Two bytes a record are enough; a longer buffer keeps its tail. */
+static void test_exact_answers(void)
+{
+    const struct trace *t = prelude();
+    static struct rig r, want;
+    fresh_rig(&r);
+    fresh_rig(&want);
+    CHECK_ANSWER(replay_lengths(&r, t, (struct lengths){ CHIPS, RAM, t->len, 20 }), 0, 10, 4, 2);
+    CHECK_ANSWER(replay_lengths(&want, t, (struct lengths){ CHIPS, RAM, t->len, ANSWERS }), 0, 10, 4, 2);
+    CHECK(same_rig(&r, &want));
+    fresh_rig(&want);
+    CHECK(memcmp(r.answers + 20, want.answers + 20, sizeof r.answers - 20) == 0);
+}
+
+static void test_longest_trace(void)
+{
+    static struct trace t;
+    static struct rig r;
+    t.len = 0;
+    for (unsigned i = 0; i < RECORDS_MAX; i++)
+        put_status(&t, i % 2, i < 16000 ? 0x61 : 0x60);
+    fresh_rig(&r);
+    CHECK_ANSWER(replay_lengths(&r, &t, (struct lengths){ CHIPS, RAM, TRACE_MAX, ANSWERS }), 0, RECORDS_MAX, RECORDS_MAX, 16000);
+    CHECK(r.answers[ANSWERS - 2] == 3 && r.answers[ANSWERS - 1] == 0x60 && r.answers[ANSWERS] == 0xEE);
+    t.bytes[TRACE_MAX - 1] = 1;
+    CHECK_ANSWER(replay(&r, &t), 4, RECORDS_MAX - 1, RECORDS_MAX - 1, 16000);
+}
+
+/* One chip's cycles leave the other chip and its RAM alone. */
+static void test_chips_apart(void)
+{
+    static struct trace both, one;
+    static struct rig r, alone;
+    for (unsigned chip = 0; chip < 2; chip++) {
+        both.len = one.len = 0;
+        for (unsigned i = 0; i < 200; i++) {
+            unsigned lines = i % 3 == 0 ? PEDRALUME_DATA_READ : PEDRALUME_DATA_WRITE;
+            put_record(&both, lines, chip, i, 0);
+            put_record(&one, lines, chip, i, 0);
+            put_command(&both, 1 - chip, 0xC0 + i % 32);
+        }
+        fresh_rig(&r);
+        fresh_rig(&alone);
+        replay(&r, &both);
+        replay(&alone, &one);
+        CHECK(memcmp(r.chips + CHIP * chip, alone.chips + CHIP * chip, CHIP) == 0);
+        CHECK(memcmp(r.ram, alone.ram, RAM) == 0);
+        CHECK(r.chips[CHIP * (1 - chip) + PEDRALUME_START_LINE] == 199 % 32);
+    }
+}
+
+#ifdef WITH_FRAME
+
+/* ---- frame ---- */
+
+/* A state and a frame with bytes to spare. */
+struct panel {
+    uint8_t chips[CHIPS + SLACK];
+    uint8_t ram[RAM + SLACK];
+    uint8_t frame[FRAME + SLACK];
+};
+
+static void lit_panel(struct panel *p)
+{
+    static const uint8_t on[CHIP] = { 1, 0, 1, 0, 0, 0, 0, 0, 0, 0, 0, 0 };
+    struct rng g = { 7 };
+    memset(p, 0xEE, sizeof *p);
+    memcpy(p->chips, on, CHIP);
+    memcpy(p->chips + CHIP, on, CHIP);
+    random_bytes(&g, p->ram, RAM);
+}
+
+static uint64_t frame_of(struct panel *p)
+{
+    return pedralume_frame(p->chips, CHIPS, p->ram, RAM, p->frame, FRAME);
+}
+
+static void panel_command(struct panel *p, unsigned chip, unsigned byte)
+{
+    const uint8_t record[RECORD] = { PEDRALUME_COMMAND_WRITE, (uint8_t)chip, (uint8_t)byte, 0 };
+    uint8_t answer[2];
+    CHECK_ANSWER(pedralume_replay(p->chips, CHIPS, p->ram, RAM, record, RECORD, answer, 2), 0, 1, 0, 0);
+}
+
+static unsigned bit(unsigned byte, unsigned n)
+{
+    return byte >> n & 1;
+}
+
+static unsigned pixel(const uint8_t *frame, unsigned x, unsigned row)
+{
+    return bit(frame[x + WIDTH * (row / 8)], row % 8);
+}
+
+/* The pixel as document 01 says it, one at a time. */
+static unsigned expect_pixel(const struct panel *p, unsigned x, unsigned row)
+{
+    const uint8_t *c = p->chips + CHIP * (x / 61);
+    unsigned n = x % 61, column = c[PEDRALUME_ADC] ? 79 - n : n;
+    unsigned line = (c[PEDRALUME_START_LINE] + row) % 32;
+    if (c[PEDRALUME_DISPLAY] == 0)
+        return 0;
+    if (c[PEDRALUME_STATIC] == 1)
+        return 1;
+    if (c[PEDRALUME_DUTY] == 0 && row >= 16)
+        return 0;
+    return bit(p->ram[HALF_RAM * (x / 61) + 80 * (line / 8) + column], line % 8);
+}
+
+static void test_frame_of(struct panel *p)
+{
+    struct panel before = *p;
+    unsigned wrong = 0;
+    CHECK_ANSWER(frame_of(p), 0, 488, 0, 0);
+    for (unsigned x = 0; x < WIDTH; x++)
+        for (unsigned row = 0; row < 32; row++)
+            wrong += pixel(p->frame, x, row) != expect_pixel(p, x, row);
+    CHECK(wrong == 0);
+    memcpy(before.frame, p->frame, FRAME);
+    CHECK(memcmp(&before, p, sizeof before) == 0);
+}
+
+/* Each switch of each chip at each start line, the other chip elsewhere. */
+static void test_all_frames(void)
+{
+    static struct panel p;
+    lit_panel(&p);
+    for (unsigned way = 0; way < 16 * 32; way++) {
+        for (unsigned chip = 0; chip < 2; chip++) {
+            uint8_t *c = p.chips + CHIP * chip;
+            unsigned turned = chip == 0 ? way : (way * 5 + 77) % 512;
+            for (unsigned field = 0; field < 4; field++)
+                c[field] = (uint8_t)(turned >> (5 + field) & 1);
+            c[PEDRALUME_START_LINE] = (uint8_t)(turned % 32);
+        }
+        test_frame_of(&p);
+    }
+}
+
+static bool half_is(const struct panel *p, unsigned chip, unsigned byte)
+{
+    for (unsigned i = 0; i < 4 * HALF_WIDTH; i++)
+        if (p->frame[i % HALF_WIDTH + HALF_WIDTH * chip + WIDTH * (i / HALF_WIDTH)] != byte)
+            return false;
+    return true;
+}
+
+static void test_switch_examples(unsigned chip)                     /* P5 */
+{
+    static struct panel p;
+    lit_panel(&p);
+    panel_command(&p, chip, 0xAE);
+    panel_command(&p, chip, 0xA5);
+    CHECK_ANSWER(frame_of(&p), 0, 488, 0, 0);
+    CHECK(half_is(&p, chip, 0) && !half_is(&p, 1 - chip, 0));
+    panel_command(&p, chip, 0xAF);
+    panel_command(&p, chip, 0xA5);
+    CHECK_ANSWER(frame_of(&p), 0, 488, 0, 0);
+    CHECK(half_is(&p, chip, 0xFF) && !half_is(&p, 1 - chip, 0xFF));
+}
+
+static void test_row_example(unsigned chip)                         /* P8 */
+{
+    static struct panel p;
+    uint8_t *ram = p.ram + HALF_RAM * chip;
+    unsigned first = HALF_WIDTH * chip;
+    lit_panel(&p);
+    memset(p.ram, 0, RAM);
+    ram[240] = 0x80;
+    ram[1] = 0x01;
+    panel_command(&p, chip, 0xDF);
+    frame_of(&p);
+    CHECK(pixel(p.frame, first, 0) == 1 && pixel(p.frame, first, 1) == 0);
+    CHECK(pixel(p.frame, first + 1, 0) == 0 && pixel(p.frame, first + 1, 1) == 1);
+}
+
+static void test_segment_examples(unsigned chip)                    /* P9 */
+{
+    static struct panel p;
+    const uint8_t *ram = p.ram + HALF_RAM * chip;
+    unsigned first = HALF_WIDTH * chip;
+    lit_panel(&p);
+    frame_of(&p);
+    CHECK(p.frame[first + 60] == ram[60]);
+    panel_command(&p, chip, 0xA1);
+    frame_of(&p);
+    CHECK(p.frame[first + 60] == ram[19] && p.frame[first] == ram[79]);
+}
+
+static void test_frame_examples(void)
+{
+    for (unsigned chip = 0; chip < 2; chip++) {
+        test_switch_examples(chip);
+        test_row_example(chip);
+        test_segment_examples(chip);
+    }
+}
+
+static void test_frame_stays(const struct panel *given, size_t chips, size_t ram, size_t frame, unsigned number, size_t place)
+{
+    struct panel p = *given;
+    CHECK_ANSWER(pedralume_frame(p.chips, chips, p.ram, ram, p.frame, frame), number, place, 0, 0);
+    CHECK(memcmp(&p, given, sizeof p) == 0);
+}
+
+static void test_frame_refusals(void)
+{
+    static const size_t chips[] = { 0, 12, 23, 25 }, ram[] = { 0, 320, 639, 641 }, frame[] = { 0, 244, 487, 489 };
+    static struct panel p;
+    lit_panel(&p);
+    for (unsigned i = 0; i < 4; i++) {
+        test_frame_stays(&p, chips[i], RAM, FRAME, 1, 0);
+        test_frame_stays(&p, CHIPS, ram[i], FRAME, 1, 0);
+        test_frame_stays(&p, CHIPS, RAM, frame[i], 1, 0);
+    }
+    for (unsigned chip = 0; chip < 2; chip++)
+        for (unsigned field = 0; field < CHIP; field++) {
+            lit_panel(&p);
+            if (field == PEDRALUME_LATCH_BYTE)
+                continue;
+            p.chips[CHIP * chip + field] = (uint8_t)(field_limit[field] + 1u);
+            test_frame_stays(&p, CHIPS, RAM, FRAME, 2, chip);
+            test_frame_stays(&p, CHIPS, RAM, FRAME - 1, 1, 0);      /* 1 before 2 */
+        }
+    lit_panel(&p);
+    p.chips[CHIP + PEDRALUME_SAVED_COLUMN] = 1;
+    test_frame_stays(&p, CHIPS, RAM, FRAME, 2, 1);
+    p.chips[PEDRALUME_SAVED_COLUMN] = 1;                            /* left before right */
+    test_frame_stays(&p, CHIPS, RAM, FRAME, 2, 0);
+}
+
+#endif
+
+#ifdef WITH_REPAINT
+
+/* ---- repaint ---- */
+
+struct easel {
+    uint8_t chips[CHIPS + SLACK];
+    uint8_t picture[PICTURE + SLACK];
+    uint8_t output[REPAINT + SLACK];
+};
+
+static void ready_easel(struct easel *e)
+{
+    static const uint8_t ready[CHIP] = { 1, 0, 0, 0, 0, 0, 0, 0, 0, 0, 0, 0 };
+    struct rng g = { 11 };
+    memset(e, 0xEE, sizeof *e);
+    memcpy(e->chips, ready, CHIP);
+    memcpy(e->chips + CHIP, ready, CHIP);
+    random_bytes(&g, e->picture, PICTURE);
+}
+
+static uint64_t repaint(struct easel *e)
+{
+    return pedralume_repaint(e->chips, CHIPS, e->picture, PICTURE, e->output, sizeof e->output);
+}
+
+/* The 254 records as document 01 lists them. */
+static void expect_repaint(struct trace *t, const struct easel *e)
+{
+    t->len = 0;
+    for (unsigned chip = 0; chip < 2; chip++) {
+        const uint8_t *c = e->chips + CHIP * chip;
+        for (unsigned r = 0; r < 2; r++) {
+            put_command(t, chip, (c[PEDRALUME_START_LINE] == 0 ? 0xBA : 0xB8) + r);
+            put_command(t, chip, c[PEDRALUME_ADC] ? 19 : 0);
+            for (unsigned k = 0; k < 61; k++)
+                put_write(t, chip, e->picture[61 * chip + (c[PEDRALUME_ADC] ? 60 - k : k) + 122 * r]);
+        }
+    }
+    for (unsigned chip = 0; chip < 2; chip++)
+        put_command(t, chip, e->chips[CHIP * chip + PEDRALUME_START_LINE] == 0 ? 0xD0 : 0xC0);
+}
+
+/* Sent whole, the panel shows the picture above 16 dark rows. */
+static void check_repaint_shows(const struct easel *e)
+{
+    static struct rig r;
+    uint8_t frame[FRAME], wanted[FRAME] = { 0 };
+    busy_rig(&r, false);
+    memcpy(r.chips, e->chips, CHIPS);
+    CHECK_ANSWER(pedralume_replay(r.chips, CHIPS, r.ram, RAM, e->output, REPAINT, r.answers, ANSWERS), 0, 254, 0, 0);
+    CHECK_ANSWER(pedralume_frame(r.chips, CHIPS, r.ram, RAM, frame, FRAME), 0, 488, 0, 0);
+    memcpy(wanted, e->picture, PICTURE);
+    CHECK(memcmp(frame, wanted, FRAME) == 0);
+}
+
+static void test_repaints(void)
+{
+    static struct trace t;
+    static struct easel e, before;
+    for (unsigned way = 0; way < 32; way++) {
+        ready_easel(&e);
+        for (unsigned chip = 0; chip < 2; chip++) {
+            uint8_t *c = e.chips + CHIP * chip;
+            c[PEDRALUME_ADC] = way >> chip & 1;
+            c[PEDRALUME_START_LINE] = (way >> (2 + chip) & 1) ? 16 : 0;
+            if (way >> 4)                                           /* fields that play no part */
+                memcpy(c + PEDRALUME_COLUMN, (const uint8_t[]){ 99, 0, 1, 0x33 }, 4);
+        }
+        before = e;
+        CHECK_ANSWER(repaint(&e), 0, 254, 0, 0);
+        expect_repaint(&t, &e);
+        CHECK(t.len == REPAINT);
+        memcpy(before.output, t.bytes, REPAINT);
+        CHECK(memcmp(&e, &before, sizeof e) == 0);
+        check_repaint_shows(&e);
+    }
+}
+
+static void test_repaint_example(void)
+{
+    static struct easel e;
+    ready_easel(&e);                                                /* P12 */
+    e.chips[PEDRALUME_ADC] = 1;
+    CHECK_ANSWER(pedralume_repaint(e.chips, CHIPS, e.picture, PICTURE, e.output, REPAINT), 0, 254, 0, 0);
+    CHECK(memcmp(e.output, (const uint8_t[]){ 2, 0, 0xBA, 0, 2, 0, 0x13, 0 }, 8) == 0);
+    CHECK(memcmp(e.output + REPAINT - 8, (const uint8_t[]){ 2, 0, 0xD0, 0, 2, 1, 0xD0, 0 }, 8) == 0);
+}
+
+static void test_repaint_stays(const struct easel *given, size_t chips, size_t picture, size_t output, unsigned number, size_t place)
+{
+    struct easel e = *given;
+    CHECK_ANSWER(pedralume_repaint(e.chips, chips, e.picture, picture, e.output, output), number, place, 0, 0);
+    CHECK(memcmp(&e, given, sizeof e) == 0);
+}
+
+struct unready {
+    uint8_t field, value, number;
+};
+
+/* In the order of their numbers. */
+static const struct unready unready[] = {
+    { PEDRALUME_PAGE, 4, 2 },        { PEDRALUME_SAVED_COLUMN, 1, 2 }, { PEDRALUME_ZERO, 1, 2 },
+    { PEDRALUME_DISPLAY, 0, 9 },     { PEDRALUME_STATIC, 1, 9 },
+    { PEDRALUME_DUTY, 1, 10 },
+    { PEDRALUME_START_LINE, 1, 11 }, { PEDRALUME_START_LINE, 31, 11 },
+    { PEDRALUME_RMW, 1, 12 },
+};
+
+static void test_unready(const struct easel *given, unsigned number, unsigned place)
+{
+    test_repaint_stays(given, CHIPS, PICTURE, REPAINT, number, place);
+    test_repaint_stays(given, CHIPS, PICTURE, REPAINT - 1, 1, 0);
+}
+
+/* Each cause on each chip alone, and each pair of causes, one on each chip. */
+static void test_unready_chips(void)
+{
+    static struct easel e;
+    const size_t count = sizeof unready / sizeof unready[0];
+    for (size_t i = 0; i < count; i++)
+        for (unsigned chip = 0; chip < 2; chip++) {
+            ready_easel(&e);
+            e.chips[CHIP * chip + unready[i].field] = unready[i].value;
+            test_unready(&e, unready[i].number, chip);
+            for (size_t j = 0; j < count; j++) {
+                struct easel both = e;
+                both.chips[CHIP * (1 - chip) + unready[j].field] = unready[j].value;
+                unsigned here = unready[i].number, there = unready[j].number;
+                bool this_one = here < there || (here == there && chip == 0);
+                test_unready(&both, this_one ? here : there, this_one ? chip : 1 - chip);
+            }
+        }
+}
+
+static void test_repaint_start_lines(void)
+{
+    static struct easel e;
+    for (unsigned line = 0; line < 32; line++)
+        for (unsigned chip = 0; chip < 2; chip++) {
+            ready_easel(&e);
+            e.chips[CHIP * chip + PEDRALUME_START_LINE] = (uint8_t)line;
+            if (line % 16 != 0)
+                test_unready(&e, 11, chip);
+            else
+                CHECK_ANSWER(repaint(&e), 0, 254, 0, 0);
+        }
+}
+
+static void test_repaint_lengths(void)
+{
+    static const size_t chips[] = { 0, 12, 23, 25 }, picture[] = { 0, 122, 243, 245 }, output[] = { 0, 4, 1012, 1015 };
+    static struct easel e;
+    ready_easel(&e);
+    for (unsigned i = 0; i < 4; i++) {
+        test_repaint_stays(&e, chips[i], PICTURE, REPAINT, 1, 0);
+        test_repaint_stays(&e, CHIPS, picture[i], REPAINT, 1, 0);
+        test_repaint_stays(&e, CHIPS, PICTURE, output[i], 1, 0);
+    }
+}
+
+#endif
+
+int main(void)
+{
+    test_apart();
+    test_listing();
+    test_column_stop();
+    test_mode_examples();
+    test_byte_examples();
+    test_all_commands();
+    test_all_cells();
+    test_all_status();
+    test_refused_records();
+    test_first_refusal_wins();
+    test_bad_lengths();
+    test_bad_chips();
+    test_torn_traces();
+    test_empty_trace();
+    test_exact_answers();
+    test_longest_trace();
+    test_chips_apart();
+#ifdef WITH_FRAME
+    test_all_frames();
+    test_frame_examples();
+    test_frame_refusals();
+#endif
+#ifdef WITH_REPAINT
+    test_repaints();
+    test_repaint_example();
+    test_unready_chips();
+    test_repaint_start_lines();
+    test_repaint_lengths();
+#endif
+    printf("test: %u checks, %u failed\n", checks, failures);
+    return failures == 0 ? EXIT_SUCCESS : EXIT_FAILURE;
+}
