@@ -1,0 +1,69 @@
+-- The replay on fresh chips over RAM all 0, its answers within the buffers, and its text.
+use Prim.Native.Nat.{ℕ, _+_, _*_, _/_, _%_, _≤_}
+use native.Mathlib.Omega.{arith}
+use mathlib.Core.Path.{_≡_, refl, sym, ap, _∙_}
+use mathlib.Core.Bool.{Bool, true, false, not, _&&_}
+use mathlib.Core.List.{List, _++_}
+use lib.Dec.{leb, eqb}
+use lib.ListN.{length, replicate}
+use borrow.Author.Tests.{le-leb, lt-leb}
+use Rattle.sed1520.specs.Choice.{if}
+use Rattle.sed1520.specs.Chip.{inRange, fresh}
+use Rattle.sed1520.specs.Panel.{Panel}
+use Rattle.sed1520.specs.declared.registers.Chip.{Chip}
+use Rattle.sed1520.proofs.Tests.{when}
+use Rattle.trace.specs.Records.{wholeRecords}
+use Rattle.trace.specs.Replay.{panelOf, runOf, ended, sizesWrong, replayOf}
+use Rattle.trace.specs.declared.Replayed.{Replayed}
+use Rattle.trace.proofs.AfterEach.{replies-bound, records-length}
+use Rattle.trace.proofs.Bounds.{replay-bounded}
+use Rattle.trace.proofs.ReplayCases.{sizes-right}
+use Rattle.replay.specs.Text.{linesOf, endOf, givenOf, textOf, start, Put}
+use Rattle.replay.proofs.Digits.{put-more}
+use Rattle.trace.specs.Replay as replay
+
+pub given-all : (n at : ℕ) → n ≡ 0 → at ≡ givenOf n at
+given-all n at e = rw e
+
+pub given-none : (n at : ℕ) → 1 ≤ n → n ≤ 3 → 0 ≡ givenOf n at
+given-none n at l h = rw (le-leb 1 n l, le-leb n 3 h)
+
+pub given-records : (n at : ℕ) → 1 ≤ n → 4 ≤ n → at ≡ givenOf n at
+given-records n at l h = rw (le-leb 1 n l, lt-leb n 3 h)
+
+given-bound : (n at : ℕ) → givenOf n at ≤ at
+given-bound n at = when (λ (k : ℕ). k ≤ at) (leb 1 n && leb n 3) (λ _. omega arith) (λ _. omega arith)
+
+-- two answer bytes for each answer given
+given-space : (p : Panel) (trace answers : List ℕ) → 2 * givenOf (replayOf p trace answers .number) (replayOf p trace answers .place) ≤ length answers
+unfolding replayOf ended
+given-space p trace answers =
+    when Enough (sizesWrong (length trace) (length (p .ram)) (length answers)) (λ _. omega arith)
+    (λ sizes. let right = sizes-right (length trace) (length (p .ram)) (length answers) sizes in
+    when Enough (not (inRange (p .left))) (λ _. omega arith)
+    (λ _. when Enough (not (inRange (p .right))) (λ _. omega arith)
+    (λ _. when Enough (not (eqb (length trace % 4) 0)) (λ _. omega arith)
+    (λ _. let run = runOf p (wholeRecords trace) in
+    omega (arith, given-bound (run .number) (length (run .replies)), replies-bound (wholeRecords trace) p, records-length (length trace / 4) trace)))))
+  where
+    Enough : replay.Outcome → Type 0
+    Enough o = 2 * givenOf (o .number) (o .place) ≤ length answers
+
+module _ (trace answers image ram′ answers′ : List ℕ) (left right : Chip) (done : Replayed) (is-left : left ≡ fresh) (is-right : right ≡ fresh) (blank : image ≡ replicate 640 0) (ends : replay.outcome done ram′ answers′ ≡ replayOf (panelOf left right image) trace answers) where
+  same : replay.outcome done ram′ answers′ ≡ replayOf start trace answers
+  same = ends ∙ rw (is-left, is-right, blank)
+
+  pub answers-left : answers′ ≡ replayOf start trace answers .answers
+  answers-left = ap (λ (o : replay.Outcome). o .answers) same
+
+  pub given-fits : (givenOf (done .number) (done .place) ≤ 16384) × (2 * givenOf (done .number) (done .place) ≤ length answers)
+  given-fits =
+      let number = ap (λ (o : replay.Outcome). o .number) same in
+      let place = ap (λ (o : replay.Outcome). o .place) same in
+      rw (number, place)
+      (omega (arith, given-bound (replayOf start trace answers .number) (replayOf start trace answers .place), replay-bounded start trace answers .place), given-space start trace answers)
+
+  pub listed : (out mid end : List ℕ) (at next given : ℕ) → given ≡ givenOf (done .number) (done .place) → Put out mid 0 at (linesOf answers′ 0 given) → Put mid end at next (endOf (done .number) (done .place) (done .compared) (done .differing)) → Put out end 0 next (textOf (replayOf start trace answers))
+  unfolding textOf
+  listed out mid end at next given e lines last =
+      rw (← same) (put-more out mid end 0 at next (linesOf answers′ 0 (givenOf (done .number) (done .place))) (endOf (done .number) (done .place) (done .compared) (done .differing)) (rw e at lines) last)

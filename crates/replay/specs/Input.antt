@@ -1,0 +1,9 @@
+-- What reading standard input came to.
+use Prim.Native.Nat.{ℕ}
+use Rattle.replay.specs.declared.Input.{Input}
+use Rattle.replay.specs.declared.Input.the-variants.{Read, Failed}
+
+-- how many bytes were read; a failed read counts none
+abbrev pub readIn : Input → ℕ
+readIn (Read n) = n
+readIn Failed = 0

@@ -1,0 +1,61 @@
+-- The text that the program prints: a line for each answer, record, kind and byte; then the end line, number, place, compared and differing. All are decimal
+-- but the byte, which is two upper-case hexadecimal digits.
+use Prim.Native.Nat.{ℕ, zero, suc, _+_, _*_, _/_, _%_}
+use mathlib.Core.Path.{_≡_}
+use mathlib.Core.Bool.{Bool, _&&_}
+use mathlib.Core.List.{List, [], _∷_, _++_}
+use lib.Dec.{ltb, leb}
+use lib.ListN.{length, getD, replicate}
+use lib.Seq.{sets}
+use Rattle.sed1520.specs.Choice.{if}
+use Rattle.sed1520.specs.Chip.{fresh}
+use Rattle.sed1520.specs.Panel.{Panel}
+use Rattle.trace.specs.Replay.{Outcome, panelOf, replayOf}
+
+-- the decimal digits of a number that has at most so many, in ASCII, no zeros in front
+unfoldable pub decimal : ℕ → ℕ → List ℕ
+decimal zero n = []
+decimal (suc most) n = if (ltb n 10) ((48 + n) ∷ []) (decimal most (n / 10) ++ ((48 + n % 10) ∷ []))
+
+-- no number that is printed is over 65,536, so five are enough
+abbrev pub decimalOf : ℕ → List ℕ
+decimalOf n = decimal 5 n
+
+-- a hexadecimal digit: 0 to 9, A to F
+unfoldable pub hexDigit : ℕ → ℕ
+hexDigit n = if (ltb n 10) (48 + n) (55 + n)
+
+-- a byte as two hexadecimal digits
+abbrev pub hexOf : ℕ → List ℕ
+hexOf b = hexDigit (b / 16) ∷ hexDigit (b % 16) ∷ []
+
+-- the line of an answer; 32 is a space, 10 the end of a line
+unfoldable pub lineOf : ℕ → ℕ → ℕ → List ℕ
+lineOf index kind byte = decimalOf index ++ ((32 ∷ decimalOf kind) ++ (32 ∷ hexOf byte ++ (10 ∷ [])))
+
+-- the end line: "end" and four numbers
+unfoldable pub endOf : ℕ → ℕ → ℕ → ℕ → List ℕ
+endOf number place compared differing =
+    101 ∷ 110 ∷ 100 ∷ (32 ∷ decimalOf number) ++ ((32 ∷ decimalOf place) ++ ((32 ∷ decimalOf compared) ++ ((32 ∷ decimalOf differing) ++ (10 ∷ []))))
+
+-- the lines of n answers from a record on, two bytes each in the answer buffer
+unfoldable pub linesOf : List ℕ → ℕ → ℕ → List ℕ
+linesOf answers at zero = []
+linesOf answers at (suc n) = lineOf at (getD answers (2 * at) 0) (getD answers (2 * at + 1) 0) ++ linesOf answers (at + 1) n
+
+-- how many answers a replay gave, by its number and place: none where it was refused before its first record
+abbrev pub givenOf : ℕ → ℕ → ℕ
+givenOf number place = if (leb 1 number && leb number 3) 0 place
+
+-- the text of a replay
+unfoldable pub textOf : Outcome → List ℕ
+textOf o = linesOf (o .answers) 0 (givenOf (o .number) (o .place)) ++ endOf (o .number) (o .place) (o .compared) (o .differing)
+
+-- fresh chips, RAM all 0
+abbrev pub start : Panel
+start = panelOf fresh fresh (replicate 640 0)
+
+-- what putting some bytes at a place of a buffer leaves, and the place past them
+pub record Put (before after : List ℕ) (at next : ℕ) (bytes : List ℕ) : Type 0 where
+  pub text : after ≡ sets before at bytes
+  pub next-place : next ≡ at + length bytes
