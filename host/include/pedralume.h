@@ -10,8 +10,8 @@
  *
  * Chip 0 is the left one, chip 1 the right one.
  *
- * Words. "Document 01" is the paper that fixes the behaviour. It says "holder" for the read latch,
- * "room" for repaint's output buffer and "glass" for the panel.
+ * Words. The paper that fixes the behaviour, document 01, says "holder" for the read latch, "room"
+ * for repaint's output buffer and "glass" for the panel.
  *
  *
  * WHO OWNS WHAT
@@ -92,8 +92,9 @@
  * Byte x + 122 * r, bit b, is the pixel at column x (0 to 121), row 8 * r + b. A frame has r 0 to 3.
  * A picture is laid out as the first 244 bytes of a frame: r 0 and 1. Columns 0 to 60 are the left
  * chip's, the others the right chip's, and each half is shown by its own chip: dark with the display
- * off; all lit with the display and static drive on; else its RAM from the start line on, with rows
- * 16 to 31 dark at duty 1/16.
+ * off; all lit with the display and static drive on; else row y of its segment n (0 to 60) is line
+ * (start line + y) mod 32 of RAM column n, or 79 - n with reverse ADC, and rows 16 to 31 are dark at
+ * duty 1/16.
  *
  *
  * WHAT EACH CALL GIVES BACK: number + 256 * place + 2^24 * compared + 2^40 * differing
@@ -245,8 +246,9 @@ uint64_t pedralume_frame(const uint8_t *chips, size_t chips_len,
  * Writes the 254 trace records (1,016 bytes) that bring the picture to the panel: first the 16 rows
  * not being shown, last the left and then the right start line. Bytes past these stay. Both chips
  * must be ready: display on, static drive off, duty 1/16, start line 0 or 16, read-modify-write off.
- * Sent in order and with nobody else on the bus, the panel keeps what it showed up to record 252 of
- * 254; after 253 the left half is new, after 254 all of it is, with the lower 16 rows dark.
+ * Sent in order and with nobody else on the bus, the panel keeps what it showed until 252
+ * records are sent; after 253 the left half is new, after all 254 both are, with the lower 16 rows
+ * dark.
  */
 uint64_t pedralume_repaint(const uint8_t *chips, size_t chips_len,
                            const uint8_t *picture, size_t picture_len,

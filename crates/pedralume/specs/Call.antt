@@ -10,7 +10,7 @@ use Rattle.trace.specs.Replay.{sizesWrong, replayOf}
 use Rattle.pedralume.specs.ChipRecord.{chipBytes, chipIn, wrongChip}
 use Rattle.trace.specs.Replay as replay
 
--- the 64-bit number
+-- the 64-bit number that a call gives back: number, place, compared and differing, each in bits of its own
 abbrev pub packed : ℕ → ℕ → ℕ → ℕ → ℕ
 packed number place compared differing = number + 256 * place + 2 ^ 24 * compared + 2 ^ 40 * differing
 

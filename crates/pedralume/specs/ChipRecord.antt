@@ -11,10 +11,11 @@ use Rattle.sed1520.specs.declared.registers.Chip.{Chip}
 use Rattle.sed1520.specs.declared.registers.ReadLatch.{ReadLatch}
 use Rattle.sed1520.specs.declared.registers.ReadLatch.the-variants.{Fresh, Stale}
 
--- a flag as a byte, and a byte as a flag
+-- a flag as a byte
 abbrev pub bit : Bool → ℕ
 bit b = if b 1 0
 
+-- a byte as a flag
 abbrev pub flag : ℕ → Bool
 flag n = eqb n 1
 

@@ -15,7 +15,7 @@ use crate::packing::pack;
 // The chip records of both chips.
 const CHIPS_BYTES: usize = 24;
 
-// The replay on chip records that number 2 lets pass, rewritten afterwards.
+// The replay on the chips of two records, which are rewritten afterwards.
 fn replay_records(chips: &mut [u8], ram: &mut [u8], trace: &[u8], answers: &mut [u8]) -> u64
     requires { ⌜ length (now chips) ≡ 24 ⌝ }
     ensures { λ r. ⌜ callOf r (now (chips .exit)) (now (ram .exit)) (now (answers .exit)) ≡ replayed (replayOf (panelIn (now (chips .entry)) (now (ram .entry))) (now (trace .entry)) (now (answers .entry))) ⌝ }

@@ -3,6 +3,7 @@ ghost use Prim.Native.Nat.{_<_};
 ghost use mathlib.Core.Path.{_≡_};
 ghost use Rattle.pedralume.specs.Call.{packed};
 
+// Number, place, compared and differing, each in its own bits.
 pub(crate) fn pack(number: u8, place: u64, compared: u64, differing: u64) -> u64
     requires { ⌜ place < 65536 ⌝ }
     requires { ⌜ compared < 65536 ⌝ }

@@ -19,12 +19,12 @@ lines-more answers at (suc n) =
 pub record Lines (before now answers : List ℕ) (count at index : ℕ) : Type 0 where
   pub so-far : Put before now 0 at (linesOf answers 0 index)
   pub within : index ≤ count
-  pub short : at ≤ 15 * index
+  pub short : at ≤ 45 * index
   pub size : length now ≡ length before
-  pub enough : 15 * count ≤ length before
+  pub enough : 45 * count ≤ length before
   pub given : 2 * count ≤ length answers
 
-pub one-more : (before now after answers : List ℕ) (count at next index : ℕ) → Lines before now answers count at index → index + 1 ≤ count → length after ≡ length now → next ≤ at + 15
+pub one-more : (before now after answers : List ℕ) (count at next index : ℕ) → Lines before now answers count at index → index + 1 ≤ count → length after ≡ length now → next ≤ at + 45
     → Put now after at next (lineOf index (getD answers (2 * index) 0) (getD answers (2 * index + 1) 0)) → Lines before after answers count next (index + 1)
 one-more before now after answers count at next index l h same short p =
     record {
@@ -36,6 +36,6 @@ one-more before now after answers count at next index l h same short p =
       given = l .given;
     }
 
-pub no-lines : (l answers : List ℕ) (count : ℕ) → 15 * count ≤ length l → 2 * count ≤ length answers → Lines l l answers count 0 0
+pub no-lines : (l answers : List ℕ) (count : ℕ) → 45 * count ≤ length l → 2 * count ≤ length answers → Lines l l answers count 0 0
 unfolding linesOf
 no-lines l answers count e g = record { so-far = record { text = refl; next-place = refl }; within = omega arith; short = omega arith; size = refl; enough = e; given = g }

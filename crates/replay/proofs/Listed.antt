@@ -5,7 +5,7 @@ use mathlib.Core.Path.{_≡_, refl, sym, ap, _∙_}
 use mathlib.Core.Bool.{Bool, true, false, not, _&&_}
 use mathlib.Core.List.{List, _++_}
 use lib.Dec.{leb, eqb}
-use lib.ListN.{length, replicate}
+use lib.ListN.{length, replicate, length-replicate}
 use borrow.Author.Tests.{le-leb, lt-leb}
 use Rattle.sed1520.specs.Choice.{if}
 use Rattle.sed1520.specs.Chip.{inRange, fresh}
@@ -18,9 +18,12 @@ use Rattle.trace.specs.declared.Replayed.{Replayed}
 use Rattle.trace.proofs.AfterEach.{replies-bound, records-length}
 use Rattle.trace.proofs.Bounds.{replay-bounded}
 use Rattle.trace.proofs.ReplayCases.{sizes-right}
-use Rattle.replay.specs.Text.{linesOf, endOf, givenOf, textOf, start, Put}
+use Rattle.replay.specs.Text.{linesOf, endOf, givenOf, textOf, programText, start, Put}
 use Rattle.replay.proofs.Digits.{put-more}
 use Rattle.trace.specs.Replay as replay
+
+pub cleared-length : (l : List ℕ) (n : ℕ) → l ≡ replicate n 0 → length l ≡ n
+cleared-length l n e = rw e (length-replicate n 0)
 
 pub given-all : (n at : ℕ) → n ≡ 0 → at ≡ givenOf n at
 given-all n at e = rw e
@@ -49,12 +52,9 @@ given-space p trace answers =
     Enough : replay.Outcome → Type 0
     Enough o = 2 * givenOf (o .number) (o .place) ≤ length answers
 
-module _ (trace answers image ram′ answers′ : List ℕ) (left right : Chip) (done : Replayed) (is-left : left ≡ fresh) (is-right : right ≡ fresh) (blank : image ≡ replicate 640 0) (ends : replay.outcome done ram′ answers′ ≡ replayOf (panelOf left right image) trace answers) where
+module _ (trace answers image ram′ answers′ : List ℕ) (left right : Chip) (done : Replayed) (is-left : left ≡ fresh) (is-right : right ≡ fresh) (blank : image ≡ replicate 640 0) (cleared : answers ≡ replicate 32768 0) (ends : replay.outcome done ram′ answers′ ≡ replayOf (panelOf left right image) trace answers) where
   same : replay.outcome done ram′ answers′ ≡ replayOf start trace answers
   same = ends ∙ rw (is-left, is-right, blank)
-
-  pub answers-left : answers′ ≡ replayOf start trace answers .answers
-  answers-left = ap (λ (o : replay.Outcome). o .answers) same
 
   pub given-fits : (givenOf (done .number) (done .place) ≤ 16384) × (2 * givenOf (done .number) (done .place) ≤ length answers)
   given-fits =
@@ -63,7 +63,7 @@ module _ (trace answers image ram′ answers′ : List ℕ) (left right : Chip) 
       rw (number, place)
       (omega (arith, given-bound (replayOf start trace answers .number) (replayOf start trace answers .place), replay-bounded start trace answers .place), given-space start trace answers)
 
-  pub listed : (out mid end : List ℕ) (at next given : ℕ) → given ≡ givenOf (done .number) (done .place) → Put out mid 0 at (linesOf answers′ 0 given) → Put mid end at next (endOf (done .number) (done .place) (done .compared) (done .differing)) → Put out end 0 next (textOf (replayOf start trace answers))
-  unfolding textOf
+  pub listed : (out mid end : List ℕ) (at next given : ℕ) → given ≡ givenOf (done .number) (done .place) → Put out mid 0 at (linesOf answers′ 0 given) → Put mid end at next (endOf (done .number) (done .place) (done .compared) (done .differing)) → Put out end 0 next (programText trace)
+  unfolding programText textOf
   listed out mid end at next given e lines last =
-      rw (← same) (put-more out mid end 0 at next (linesOf answers′ 0 (givenOf (done .number) (done .place))) (endOf (done .number) (done .place) (done .compared) (done .differing)) (rw e at lines) last)
+      rw (← cleared, ← same) (put-more out mid end 0 at next (linesOf answers′ 0 (givenOf (done .number) (done .place))) (endOf (done .number) (done .place) (done .compared) (done .differing)) (rw e at lines) last)

@@ -17,9 +17,9 @@ unfoldable pub decimal : ℕ → ℕ → List ℕ
 decimal zero n = []
 decimal (suc most) n = if (ltb n 10) ((48 + n) ∷ []) (decimal most (n / 10) ++ ((48 + n % 10) ∷ []))
 
--- no number that is printed is over 65,536, so five are enough
+-- a number in decimal: no 64-bit number has more than twenty digits
 abbrev pub decimalOf : ℕ → List ℕ
-decimalOf n = decimal 5 n
+decimalOf n = decimal 20 n
 
 -- a hexadecimal digit: 0 to 9, A to F
 unfoldable pub hexDigit : ℕ → ℕ
@@ -54,6 +54,10 @@ textOf o = linesOf (o .answers) 0 (givenOf (o .number) (o .place)) ++ endOf (o .
 -- fresh chips, RAM all 0
 abbrev pub start : Panel
 start = panelOf fresh fresh (replicate 640 0)
+
+-- what the program prints for the bytes that it read; two answer bytes for each of 16,384 records are room for any trace
+unfoldable pub programText : List ℕ → List ℕ
+programText trace = textOf (replayOf start trace (replicate 32768 0))
 
 -- what putting some bytes at a place of a buffer leaves, and the place past them
 pub record Put (before after : List ℕ) (at next : ℕ) (bytes : List ℕ) : Type 0 where

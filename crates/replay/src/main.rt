@@ -4,8 +4,7 @@ mod text;
 ghost use Prim.Native.Nat.{_≤_};
 ghost use mathlib.Core.Path.{_≡_};
 ghost use lib.ListN.{length, replicate};
-ghost use Rattle.trace.specs.Replay.{replayOf};
-ghost use Rattle.replay.specs.Text.{givenOf, textOf, start, Put};
+ghost use Rattle.replay.specs.Text.{givenOf, programText, Put};
 ghost use Rattle.replay.specs.Input.{readIn};
 use crate::text::put_end;
 use crate::text::put_lines;
@@ -13,11 +12,16 @@ use libc::STDIN_FILENO;
 use libc::STDOUT_FILENO;
 use sed1520::registers::Chip;
 
-// The buffers of a trace and of a listing, and the RAM of both chips.
+// One byte more than a trace may have, so that a longer one is seen to be too long.
 type TraceBytes = [u8; 65537];
 
-type TextBytes = [u8; 262144];
+// Two for each record of the longest trace.
+type AnswerBytes = [u8; 32768];
 
+// Enough for 16,384 lines of at most 45 bytes and the end line.
+type TextBytes = [u8; 737368];
+
+// The RAM of both chips.
 type Image = [u8; 640];
 
 // What reading standard input came to: so many bytes, or a read that failed.
@@ -26,18 +30,25 @@ enum Input {
     Failed,
 }
 
-// One byte more than a trace may have, so that a longer one is seen to be too long.
+// Where standard input is read to.
 fn trace_buffer() -> TraceBytes
-    ensures { λ r. ⌜ 65537 ≡ length r ⌝ }
+    ensures { λ r. ⌜ r ≡ replicate 65537 0 ⌝ }
 {
     [0; 65537]
 }
 
-// Enough for 16,384 lines of at most 15 bytes and the end line.
-fn text_buffer() -> TextBytes
-    ensures { λ r. ⌜ 262144 ≡ length r ⌝ }
+// Where the replay puts its answers.
+fn answer_buffer() -> AnswerBytes
+    ensures { λ r. ⌜ r ≡ replicate 32768 0 ⌝ }
 {
-    [0; 262144]
+    [0; 32768]
+}
+
+// Where the text is put.
+fn text_buffer() -> TextBytes
+    ensures { λ r. ⌜ r ≡ replicate 737368 0 ⌝ }
+{
+    [0; 737368]
 }
 
 // The RAM of both chips, all 0.
@@ -61,15 +72,15 @@ fn given_in(number: u8, place: u64) -> usize
 }
 
 // The listing of a trace, at the front of the buffer; answers how many bytes it has.
-fn listing(trace: &[u8], answers: &mut [u8], out: &mut [u8]) -> usize
-    requires { ⌜ 245788 ≤ length (now out) ⌝ }
-    ensures { λ r. ⌜ Put (now (out .entry)) (now (out .exit)) 0 r (textOf (replayOf start (now (trace .entry)) (now (answers .entry)))) ⌝ }
-    ensures { λ r. ⌜ now (answers .exit) ≡ replayOf start (now (trace .entry)) (now (answers .entry)) .answers ⌝ }
-    ensures { λ r. ⌜ r ≤ 245788 ⌝ }
+fn listing(trace: &[u8], out: &mut [u8]) -> usize
+    requires { ⌜ 737368 ≤ length (now out) ⌝ }
+    ensures { λ r. ⌜ Put (now (out .entry)) (now (out .exit)) 0 r (programText (now (trace .entry))) ⌝ }
+    ensures { λ r. ⌜ r ≤ 737368 ⌝ }
 {
     let mut ram = blank_image();
-    let done = trace::replay(Chip::fresh(), Chip::fresh(), &mut ram, trace, answers);
-    let lines = put_lines(out, answers, given_in(done.number, done.place));
+    let mut answers = answer_buffer();
+    let done = trace::replay(Chip::fresh(), Chip::fresh(), &mut ram, trace, &mut answers);
+    let lines = put_lines(out, &answers, given_in(done.number, done.place));
     put_end(
         out,
         lines,
@@ -100,14 +111,13 @@ fn read_input(buffer: &mut [u8]) -> Input
 }
 
 // A read that fails prints nothing. The text goes out in one piece with the end line last, so a write that falls short
-// prints no end line.
+// prints no whole end line.
 fn main() {
     let mut trace = trace_buffer();
     let Input::Read(count) = read_input(&mut trace) else {
         return;
     };
-    let mut answers = io::large_buffer();
     let mut out = text_buffer();
-    let size = listing(&trace[..count], &mut answers, &mut out);
+    let size = listing(&trace[..count], &mut out);
     io::write_all(STDOUT_FILENO, &out[..size]);
 }

@@ -1,11 +1,11 @@
-// The text of a listing, put into a lent buffer.
+// The text of a listing, put into a lent buffer. Each `put_` answers the place past what it put.
 ghost use Prim.Native.Nat.{_+_, _*_, _<_, _≤_};
 ghost use mathlib.Core.Path.{_≡_};
 ghost use mathlib.Core.List.{[], _∷_, _++_};
 ghost use lib.ListN.{length};
 ghost use Rattle.replay.specs.Text.{decimal, decimalOf, hexDigit, hexOf, lineOf, endOf, linesOf, Put};
 
-// Puts the decimal digits of a number that has at most so many, and answers the place past them, as all of these do.
+// Puts the decimal digits of a number that has at most so many.
 fn put_digits(out: &mut [u8], at: usize, n: u64, most: usize) -> usize
     requires { ⌜ at + most ≤ length (now out) ⌝ }
     ensures { λ r. ⌜ Put (now (out .entry)) (now (out .exit)) at r (decimal most n) ⌝ }
@@ -24,12 +24,12 @@ fn put_digits(out: &mut [u8], at: usize, n: u64, most: usize) -> usize
 
 // A space and a number.
 fn put_next(out: &mut [u8], at: usize, n: u64) -> usize
-    requires { ⌜ at + 6 ≤ length (now out) ⌝ }
+    requires { ⌜ at + 21 ≤ length (now out) ⌝ }
     ensures { λ r. ⌜ Put (now (out .entry)) (now (out .exit)) at r (32 ∷ decimalOf n) ⌝ }
-    ensures { λ r. ⌜ r ≤ at + 6 ⌝ }
+    ensures { λ r. ⌜ r ≤ at + 21 ⌝ }
 {
     out[at] = 32;
-    put_digits(out, at + 1, n, 5)
+    put_digits(out, at + 1, n, 20)
 }
 
 // A hexadecimal digit.
@@ -54,21 +54,21 @@ fn put_hex(out: &mut [u8], at: usize, byte: u8) -> usize
 
 // The line of an answer.
 fn put_line(out: &mut [u8], at: usize, index: u64, kind: u8, byte: u8) -> usize
-    requires { ⌜ at + 15 ≤ length (now out) ⌝ }
+    requires { ⌜ at + 45 ≤ length (now out) ⌝ }
     ensures { λ r. ⌜ Put (now (out .entry)) (now (out .exit)) at r (lineOf index kind byte) ⌝ }
-    ensures { λ r. ⌜ r ≤ at + 15 ⌝ }
+    ensures { λ r. ⌜ r ≤ at + 45 ⌝ }
 {
-    let first = put_digits(out, at, index, 5);
+    let first = put_digits(out, at, index, 20);
     let second = put_next(out, first, kind as u64);
     put_hex(out, second, byte)
 }
 
 // The lines of the answers from the first on, two bytes each.
 pub(crate) fn put_lines(out: &mut [u8], answers: &[u8], count: usize) -> usize
-    requires { ⌜ 15 * count ≤ length (now out) ⌝ }
+    requires { ⌜ 45 * count ≤ length (now out) ⌝ }
     requires { ⌜ 2 * count ≤ length (now answers) ⌝ }
     ensures { λ r. ⌜ Put (now (out .entry)) (now (out .exit)) 0 r (linesOf (now (answers .entry)) 0 count) ⌝ }
-    ensures { λ r. ⌜ r ≤ 15 * count ⌝ }
+    ensures { λ r. ⌜ r ≤ 45 * count ⌝ }
 {
     let mut at = 0;
     let mut index = 0;
@@ -94,9 +94,9 @@ pub(crate) fn put_end(
     compared: u64,
     differing: u64,
 ) -> usize
-    requires { ⌜ at + 28 ≤ length (now out) ⌝ }
+    requires { ⌜ at + 88 ≤ length (now out) ⌝ }
     ensures { λ r. ⌜ Put (now (out .entry)) (now (out .exit)) at r (endOf number place compared differing) ⌝ }
-    ensures { λ r. ⌜ r ≤ at + 28 ⌝ }
+    ensures { λ r. ⌜ r ≤ at + 88 ⌝ }
 {
     out[at] = b'e';
     out[at + 1] = b'n';

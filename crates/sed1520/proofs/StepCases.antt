@@ -12,6 +12,7 @@ use Rattle.sed1520.specs.Chip.{inRange}
 use Rattle.sed1520.specs.Cycle.{Outcome, outcome, refusal, readLine, writeLine, actionOf, commandWrite, dataWrite, dataRead, statusRead, stepOf, cycleOf}
 use Rattle.sed1520.specs.declared.registers.Chip.{Chip}
 use Rattle.sed1520.specs.declared.bus.Record.{Record}
+use Rattle.sed1520.specs.Promises.{EveryCycleSteps}
 
 -- the eight values of the control lines
 module _ (lines b : ℕ) (c : Chip) (ram : List ℕ) where
@@ -66,3 +67,6 @@ module _ (r : Record) (c : Chip) (ram : List ℕ) where
   pub cycle-step : length ram ≡ 320 → inRange c ≡ true → cycleOf r c ram ≡ stepOf r c ram
   unfolding cycleOf
   cycle-step h e = rw (eq-eqb (length ram) 320 h, e)
+
+pub every-cycle-steps : EveryCycleSteps
+every-cycle-steps r c ram h e = cycle-step r c ram h e

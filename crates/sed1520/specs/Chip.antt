@@ -46,35 +46,42 @@ abbrev pub chipOf : Bool → Bool → Bool → Bool → Bool → ℕ → ℕ →
 chipOf display static duty reverse modify page line column saved latch =
     record { «display_on» = display; «static_on» = static; «duty_32» = duty; reverse = reverse; modify = modify; page = page; «start_line» = line; column = column; «saved_column» = saved; latch = latch }
 
--- one register written, the others as they were
+-- the display flag written alone, every other register as it was; so with the next
 abbrev pub withDisplay : Bool → Chip → Chip
 withDisplay v c =
     chipOf v (c .«static_on») (c .«duty_32») (c .reverse) (c .modify) (c .page) (c .«start_line») (c .column) (c .«saved_column») (c .latch)
 
+-- static drive written alone
 abbrev pub withStatic : Bool → Chip → Chip
 withStatic v c =
     chipOf (c .«display_on») v (c .«duty_32») (c .reverse) (c .modify) (c .page) (c .«start_line») (c .column) (c .«saved_column») (c .latch)
 
+-- the duty written alone
 abbrev pub withDuty : Bool → Chip → Chip
 withDuty v c =
     chipOf (c .«display_on») (c .«static_on») v (c .reverse) (c .modify) (c .page) (c .«start_line») (c .column) (c .«saved_column») (c .latch)
 
+-- the ADC direction written alone
 abbrev pub withReverse : Bool → Chip → Chip
 withReverse v c =
     chipOf (c .«display_on») (c .«static_on») (c .«duty_32») v (c .modify) (c .page) (c .«start_line») (c .column) (c .«saved_column») (c .latch)
 
+-- the page written alone
 abbrev pub withPage : ℕ → Chip → Chip
 withPage v c =
     chipOf (c .«display_on») (c .«static_on») (c .«duty_32») (c .reverse) (c .modify) v (c .«start_line») (c .column) (c .«saved_column») (c .latch)
 
+-- the start line written alone
 abbrev pub withStartLine : ℕ → Chip → Chip
 withStartLine v c =
     chipOf (c .«display_on») (c .«static_on») (c .«duty_32») (c .reverse) (c .modify) (c .page) v (c .column) (c .«saved_column») (c .latch)
 
+-- the column written alone
 abbrev pub withColumn : ℕ → Chip → Chip
 withColumn v c =
     chipOf (c .«display_on») (c .«static_on») (c .«duty_32») (c .reverse) (c .modify) (c .page) (c .«start_line») v (c .«saved_column») (c .latch)
 
+-- the read latch written alone
 abbrev pub withLatch : ReadLatch → Chip → Chip
 withLatch v c =
     chipOf (c .«display_on») (c .«static_on») (c .«duty_32») (c .reverse) (c .modify) (c .page) (c .«start_line») (c .column) (c .«saved_column») v

@@ -81,15 +81,17 @@ decodeOf b = commandOf b (among kinds b)
 unfoldable pub encodeOf : Command → Told ℕ
 encodeOf m = if (ltb (m .argument) (count (m .kind))) (told (first (m .kind) + m .argument)) (notTold (m .argument))
 
--- what the cases of the code's answers stand for: the kind that was found, a told command, a made byte
+-- the kind that the code found, or none
 abbrev pub foundKind : Found → Option Kind
 foundKind (Of k) = some k
 foundKind Nothing = none
 
+-- what the cases of the code's told byte stand for
 abbrev pub toldCommand : Decoded → Told Command
 toldCommand (Known m) = told m
 toldCommand (Unknown b) = notTold b
 
+-- what the cases of the code's made byte stand for
 abbrev pub toldByte : Encoded → Told ℕ
 toldByte (Byte b) = told b
 toldByte (OutOfRange a) = notTold a

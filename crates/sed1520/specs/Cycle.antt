@@ -17,13 +17,15 @@ use Rattle.sed1520.specs.declared.commands.Command.{Command}
 use Rattle.sed1520.specs.declared.actions.Answer.{Answer}
 use Rattle.sed1520.specs.declared.bus.Record.{Record}
 
--- the control lines of a record: bit 0 A0, bit 1 RD, bit 2 WR, the last two active low
+-- A0, bit 0 of a record's control lines
 abbrev pub addressLine : ℕ → ℕ
 addressLine lines = lines % 2
 
+-- RD, bit 1, active low
 abbrev pub readLine : ℕ → ℕ
 readLine lines = lines / 2 % 2
 
+-- WR, bit 2, active low
 abbrev pub writeLine : ℕ → ℕ
 writeLine lines = lines / 4 % 2
 

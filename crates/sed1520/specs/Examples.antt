@@ -26,23 +26,27 @@ ranFrom o (r ∷ rs) = ranFrom (cycleOf r (o .answer .chip) (o .ram)) rs
 abbrev pub ran : List Record → Outcome
 ran rs = ranFrom (outcome (answered 0 0 fresh) blank) rs
 
--- the four kinds of record, to chip 0
+-- a command write to chip 0
 abbrev pub command : ℕ → Record
 command b = sent 2 0 b
 
+-- a data write to chip 0
 abbrev pub write : ℕ → Record
 write b = sent 3 0 b
 
+-- a status read of chip 0
 abbrev pub status : Record
 status = sent 4 0 0
 
+-- a data read of chip 0
 abbrev pub read : Record
 read = sent 5 0 0
 
--- the sequences of P1 and of P6
+-- the sequence of P1
 abbrev pub atLast : List Record
 atLast = command 79 ∷ write 0xA5 ∷ []
 
+-- the sequence of P6
 abbrev pub blink : List Record
 blink = command 10 ∷ command 0xE0 ∷ read ∷ read ∷ write 0xFF ∷ []
 

@@ -13,7 +13,7 @@ use Rattle.sed1520.specs.declared.registers.Chip.{Chip}
 use Rattle.sed1520.specs.declared.commands.Kind.the-variants.{StartLine, Page, Column}
 use Rattle.sed1520.specs.declared.bus.Record.{Record}
 
--- the registers that a frame or a repaint looks at
+-- the registers that a frame looks at, or a later record of a repaint
 pub record Registers : Type 0 where
   pub display : Bool
   pub static : Bool

@@ -8,7 +8,7 @@ use lib.ListN
 use Rattle.sed1520.specs.Choice.{if}
 use Rattle.sed1520.specs.Chip.{inRange}
 use Rattle.sed1520.specs.Command.{count, told, notTold, decodeOf, encodeOf}
-use Rattle.sed1520.specs.Cycle.{Outcome, outcome, refusal, cycleOf}
+use Rattle.sed1520.specs.Cycle.{Outcome, outcome, refusal, stepOf, cycleOf}
 use Rattle.sed1520.specs.Panel.{Panel, chipAt, ramAt, outcomeOf, stepped}
 use Rattle.sed1520.specs.declared.registers.Chip.{Chip}
 use Rattle.sed1520.specs.declared.commands.Command.{Command}
@@ -42,6 +42,10 @@ pub record Keeps (c : Chip) (ram : List ℕ) (o : Outcome) : Type 0 where
 -- every cycle keeps it
 abbrev pub EveryCycleKeeps : Type 0
 EveryCycleKeeps = (r : Record) (c : Chip) (ram : List ℕ) → Keeps c ram (cycleOf r c ram)
+
+-- past numbers 1 and 2, every cycle is a step
+abbrev pub EveryCycleSteps : Type 0
+EveryCycleSteps = (r : Record) (c : Chip) (ram : List ℕ) → ListN.length ram ≡ 320 → inRange c ≡ true → cycleOf r c ram ≡ stepOf r c ram
 
 -- two chips on one bus: the record's own chip and its bytes are as its cycle leaves them, the other chip and its bytes as they were
 pub record Apart (p : Panel) (r : Record) : Type 0 where

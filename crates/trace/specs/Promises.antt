@@ -22,7 +22,7 @@ pub record Runs (p : Panel) (trace answers : List ℕ) : Type 0 where
 abbrev pub repliesOf : Panel → List ℕ → List Reply
 repliesOf p trace = runOf p (wholeRecords trace) .replies
 
--- for every k up to the place, the replay of the first k records is done and gives the panel, the answers and the counts that the whole replay had after k
+-- the replay of the first k records is done and gives the panel, the answers and the counts that the whole replay had after k
 pub record AfterEach (p : Panel) (trace answers : List ℕ) (k : ℕ) : Type 0 where
   pub number : replayOf p (take (4 * k) trace) answers .number ≡ 0
   pub place : replayOf p (take (4 * k) trace) answers .place ≡ k
@@ -31,6 +31,6 @@ pub record AfterEach (p : Panel) (trace answers : List ℕ) (k : ℕ) : Type 0 w
   pub panel : replayOf p (take (4 * k) trace) answers .panel ≡ after p (take k (wholeRecords trace))
   pub answers-then : replayOf p (take (4 * k) trace) answers .answers ≡ bytesOf (take k (repliesOf p trace)) ++ drop (2 * k) answers
 
--- after each record of every replay that numbers 1 to 3 let pass
+-- for every replay that numbers 1 to 3 let pass and every k up to its place
 abbrev pub AfterEachRecord : Type 0
 AfterEachRecord = (p : Panel) (trace answers : List ℕ) → Runs p trace answers → (k : ℕ) → k ≤ replayOf p trace answers .place → AfterEach p trace answers k

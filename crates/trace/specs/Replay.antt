@@ -12,20 +12,22 @@ use Rattle.sed1520.specs.declared.registers.Chip.{Chip}
 use Rattle.trace.specs.Records.{wholeRecords}
 use Rattle.trace.specs.declared.Replayed.{Replayed}
 
--- what an accepted record is answered: 0 a write, 1 a data read with a fresh latch, 2 one with a stale latch, 3 status
+-- what an accepted record is answered, by kind: 0 a write, with byte 0; 1 a data read with a fresh latch, 2 one with a stale latch, 3 status, with the byte read
 pub record Reply : Type 0 where
   pub kind : ℕ
   pub byte : ℕ
 
--- where a list of records ends: the number of the refused one or 0, the replies before it, and the panel after them
+-- how a list of records ends: 0 or the number by which a record was refused, the replies before it, and the panel after them
 pub record Run : Type 0 where
   pub number : ℕ
   pub replies : List Reply
   pub panel : Panel
 
+-- one reply more, before those of a run
 abbrev pub replied : ℕ → ℕ → Run → Run
 replied k b r = record { number = r .number; replies = record { kind = k; byte = b } ∷ r .replies; panel = r .panel }
 
+-- the records one after the other on a panel, up to the first that is refused
 unfoldable pub runOf : Panel → List Record → Run
 runOf p [] = record { number = 0; replies = []; panel = p }
 runOf p (r ∷ rs) =
@@ -37,11 +39,12 @@ runOf p (r ∷ rs) =
 abbrev pub isCompared : ℕ → Bool
 isCompared kind = eqb kind 1 || eqb kind 3
 
--- the counts, over the replies: how many reads were compared, and how many of these differ from the record's byte
+-- how many reads were compared
 unfoldable pub comparedIn : List Reply → ℕ
 comparedIn [] = 0
 comparedIn (a ∷ more) = if (isCompared (a .kind)) 1 0 + comparedIn more
 
+-- how many of these differ from their record's byte
 unfoldable pub differingIn : List Reply → List Record → ℕ
 differingIn [] rs = 0
 differingIn (a ∷ more) [] = 0

@@ -11,6 +11,7 @@ use Rattle.sed1520.specs.declared.registers.Chip.{Chip}
 use Rattle.trace.specs.Replay.{panelOf}
 use Rattle.trace.specs.declared.Turn.{Turn}
 
+-- both chips in range, and the whole image
 pub record Fits (left right : Chip) (ram : List ℕ) : Type 0 where
   pub left-range : inRange left ≡ true
   pub right-range : inRange right ≡ true

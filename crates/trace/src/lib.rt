@@ -12,13 +12,16 @@ use sed1520::bus::Record;
 use sed1520::bus::step;
 use sed1520::registers::Chip;
 
-// The most bytes that a trace may have, the bytes of a record and of its answer, and of the RAM image of both chips.
+// The most bytes that a trace may have.
 pub const TRACE_BYTES: usize = 65536;
 
+// The bytes of a record.
 pub const RECORD_BYTES: usize = 4;
 
+// The bytes of its answer.
 pub const ANSWER_BYTES: usize = 2;
 
+// The RAM image of both chips.
 pub const IMAGE_BYTES: usize = 640;
 
 // A chip's part of the image.
@@ -168,8 +171,8 @@ fn refused(number: u8, place: u64, left: Chip, right: Chip) -> Replayed
     }
 }
 
-// The replay of a trace on two chips and the image of both, the answers into a buffer that has two bytes for each
-// whole record.
+// The replay of a trace on two chips and the image of both, two answer bytes for each record; refuses by number what
+// does not fit.
 pub fn replay(left: Chip, right: Chip, ram: &mut [u8], trace: &[u8], answers: &mut [u8]) -> Replayed
     ensures { λ r. ⌜ outcome r (now (ram .exit)) (now (answers .exit)) ≡ replayOf (panelOf left right (now (ram .entry))) (now (trace .entry)) (now (answers .entry)) ⌝ }
 {

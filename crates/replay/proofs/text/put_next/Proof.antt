@@ -18,7 +18,7 @@ returns : tie.Need-returns
 returns c =
     let at = c .before .before .before .before .before .args in
     let put = c .before .before .put-digits .ensures in
-    (put-after (at .out .now) _ (at .at) (c .before .before .put-digits .result) 32 (decimalOf (at .n)) put, omega (arith, put .next-place, digits-bound 5 (at .n)))
+    (put-after (at .out .now) _ (at .at) (c .before .before .put-digits .result) 32 (decimalOf (at .n)) put, omega (arith, put .next-place, digits-bound 20 (at .n)))
 
 pub put-next-spec : {M : Type 1} → statement M
 put-next-spec =
