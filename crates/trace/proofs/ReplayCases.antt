@@ -1,7 +1,7 @@
 -- Numbers 1 to 3, and the records past them, as equations of `replayOf`.
 use Prim.Native.Nat.{ℕ, _*_, _/_, _%_, _≤_}
 use mathlib.Core.Path.{_≡_, refl}
-use mathlib.Core.Bool.{Bool, true, false, not, _||_, true≢false}
+use mathlib.Core.Bool.{Bool, true, false, not, _||_}
 use mathlib.Core.List.{List}
 use lib.Dec.{ltb, eqb}
 use lib.ListN.{length}
@@ -9,14 +9,10 @@ use borrow.Author.Tests.{le-ltb, ltb-false, eqb-true, eq-eqb, ne-eqb, not-false}
 use Rattle.sed1520.specs.Choice.{if}
 use Rattle.sed1520.specs.Chip.{inRange}
 use Rattle.sed1520.specs.Panel.{Panel}
+use Rattle.sed1520.proofs.Tests.{neither}
 use Rattle.trace.specs.Records.{wholeRecords}
 use Rattle.trace.specs.Replay.{refusedAt, runOf, ended, sizesWrong, replayOf}
 use Rattle.trace.specs.Promises.{Runs}
-
--- neither of two tests passed
-neither : (a b : Bool) → (a || b) ≡ false → (a ≡ false) × (b ≡ false)
-neither true b e = absurd (true≢false e)
-neither false b e = (refl, e)
 
 pub record Sizes (trace ram answers : ℕ) : Type 0 where
   pub short : trace ≤ 65536

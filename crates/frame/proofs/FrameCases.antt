@@ -1,0 +1,46 @@
+-- The frame's call, case by case.
+use Prim.Native.Nat.{ℕ, _≤_}
+use mathlib.Core.Path.{_≡_, refl, sym, ap, _∙_}
+use mathlib.Core.Bool.{Bool, true, false, not, _||_}
+use mathlib.Core.List.{List}
+use lib.Dec.{eqb}
+use lib.ListN.{length}
+use borrow.Author.Tests.{eqb-true, not-false}
+use Rattle.sed1520.specs.Choice.{if}
+use Rattle.sed1520.specs.Chip.{inRange}
+use Rattle.sed1520.specs.declared.registers.Chip.{Chip}
+use Rattle.sed1520.proofs.Tests.{neither}
+use Rattle.frame.specs.Frame.{frameOf, outcome, sizesWrong, framed}
+use Rattle.frame.specs.Shown.{BothShow}
+
+-- both sizes are right
+pub record Sized (ram frame : ℕ) : Type 0 where
+  pub image : ram ≡ 640
+  pub buffer : frame ≡ 488
+
+pub sizes-right : (ram frame : ℕ) → sizesWrong ram frame ≡ false → Sized ram frame
+unfolding sizesWrong
+sizes-right ram frame e =
+    let right = neither (not (eqb ram 640)) (not (eqb frame 488)) e in
+    record { image = eqb-true ram 640 (not-false (eqb ram 640) (right .0)); buffer = eqb-true frame 488 (not-false (eqb frame 488) (right .1)) }
+
+module _ (left right : Chip) (ram frame : List ℕ) where
+  pub wrong-size : sizesWrong (length ram) (length frame) ≡ true → framed left right ram frame ≡ outcome 1 0 frame
+  unfolding framed
+  wrong-size e = rw e
+
+  module _ (sizes : sizesWrong (length ram) (length frame) ≡ false) where
+    pub wrong-left : inRange left ≡ false → framed left right ram frame ≡ outcome 2 0 frame
+    unfolding framed
+    wrong-left e = rw (sizes, e)
+
+    pub wrong-right : inRange left ≡ true → inRange right ≡ false → framed left right ram frame ≡ outcome 2 1 frame
+    unfolding framed
+    wrong-right l r = rw (sizes, l, r)
+
+    pub shown : inRange left ≡ true → inRange right ≡ true → framed left right ram frame ≡ outcome 0 488 (frameOf left right ram)
+    unfolding framed
+    shown l r = rw (sizes, l, r)
+
+    pub both-show : inRange left ≡ true → inRange right ≡ true → BothShow left right ram
+    both-show l r = record { left-range = l; right-range = r; bytes = sizes-right (length ram) (length frame) sizes .image }

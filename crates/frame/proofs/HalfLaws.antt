@@ -1,0 +1,88 @@
+-- The laws of one half.
+use Prim.Native.Nat.{ℕ, zero, suc, _+_, _-_, _*_, _/_, _%_, _^_, _<_, _≤_}
+use native.Mathlib.Omega.{arith}
+use mathlib.Core.Path.{_≡_, refl, sym, ap, _∙_}
+use mathlib.Core.Bool.{Bool, true, false, not, _&&_}
+use mathlib.Core.List.{List, [], _∷_}
+use mathlib.Core.Logic.{_⊎_, ⊎-elim}
+use lib.Dec.{leb, ltb, eqb}
+use lib.ListN.{getD, take, drop}
+use borrow.Author.Tests.{le-leb, lt-leb, lt-ltb, le-ltb, not-false}
+use Rattle.sed1520.specs.Choice.{if}
+use Rattle.sed1520.specs.Memory.{ramIndex}
+use Rattle.sed1520.specs.Panel.{Panel, chipAt, ramAt}
+use Rattle.sed1520.specs.declared.registers.Chip.{Chip}
+use Rattle.frame.specs.Frame.{columnOf, lineBit, pixel, packed, frameByte, byteAt, tabulated, frameOf}
+use Rattle.frame.specs.Laws.{firstColumn, showsRam, byteShown, SameShown, TwoPages, HalfLaws}
+use Rattle.frame.proofs.Packing.{packed-same, lines-wide}
+use Rattle.frame.proofs.Segments.{segment-hidden, segment-shown}
+
+-- the value at a place of a table
+tabulated-at : (f : ℕ → ℕ) (at n i : ℕ) → i < n → getD (tabulated f at n) i 0 ≡ f (at + i)
+unfolding tabulated
+tabulated-at f at zero i h = absurd (omega arith)
+tabulated-at f at (suc n) zero h = let e : at + 0 ≡ at = omega arith in rw e
+tabulated-at f at (suc n) (suc i) h = let e : at + 1 + i ≡ at + suc i = omega arith in tabulated-at f (at + 1) n i (omega arith) ∙ rw e
+
+module _ (p : Panel) (n r : ℕ) (segment : n < 61) (row : r < 4) where
+  at-half : (left : Bool) → byteAt (p .left) (p .right) (p .ram) (if left 0 61 + n + 122 * r) ≡ frameByte (if left (p .left) (p .right)) (if left (take 320 (p .ram)) (drop 320 (p .ram))) n r
+  unfolding byteAt
+  at-half true =
+      let x : (0 + n + 122 * r) % 122 ≡ n = omega arith in
+      let q : (0 + n + 122 * r) / 122 ≡ r = omega arith in
+      rw (x, q, lt-ltb n 61 segment)
+  at-half false =
+      let x : (61 + n + 122 * r) % 122 ≡ 61 + n = omega arith in
+      let q : (61 + n + 122 * r) / 122 ≡ r = omega arith in
+      let s : 61 + n - 61 ≡ n = omega arith in
+      rw (x, q, le-ltb (61 + n) 61 (omega arith), s)
+
+  inside : (left : Bool) → if left 0 61 + n + 122 * r < 488
+  inside true = omega arith
+  inside false = omega arith
+
+  half-place : (chip : ℕ) → getD (frameOf (p .left) (p .right) (p .ram)) (firstColumn chip + n + 122 * r) 0 ≡ frameByte (chipAt p chip) (ramAt p chip) n r
+  half-place chip =
+      let from-zero : 0 + (firstColumn chip + n + 122 * r) ≡ firstColumn chip + n + 122 * r = omega arith in
+      tabulated-at (byteAt (p .left) (p .right) (p .ram)) 0 488 (firstColumn chip + n + 122 * r) (inside (eqb chip 0)) ∙ rw from-zero (at-half (eqb chip 0))
+
+-- equal tests choose equally where their choices are equal
+choice-same : {A : Type 0} (t : Bool) {a b c d : A} → (t ≡ true → a ≡ c) → (t ≡ false → b ≡ d) → if t a b ≡ if t c d
+choice-same true pass fail = pass refl
+choice-same false pass fail = fail refl
+
+module _ (c d : Chip) (ram other : List ℕ) (n : ℕ) (same : SameShown c d ram other n) where
+  pixel-same : (row : ℕ) → row < 32 → pixel c ram n row ≡ pixel d other n row
+  unfolding pixel
+  pixel-same row h =
+      rw (← same .display, ← same .static, ← same .duty, ← same .direction, ← same .line)
+      (choice-same (not (c .«display_on»)) (λ _. refl)
+      (λ on. choice-same (c .«static_on») (λ _. refl)
+      (λ off. choice-same (not (c .«duty_32») && leb 16 row) (λ _. refl)
+      (λ shown. let byte = same .bytes row h (rw (not-false (c .«display_on») on, off, shown)) in rw byte))))
+
+  pub half-depends : (r : ℕ) → r < 4 → frameByte c ram n r ≡ frameByte d other n r
+  unfolding frameByte
+  half-depends r h = packed-same 8 (pixel c ram n) (pixel d other n) (8 * r) (8 * r) (λ i l. pixel-same (8 * r + i) (omega arith))
+
+module _ (c : Chip) (ram : List ℕ) (n r : ℕ) (pages : TwoPages c) where
+  half-lower : 2 ≤ r → frameByte c ram n r ≡ 0
+  half-lower h = segment-hidden c ram n r (pages .display) (pages .static) (rw (pages .duty, le-leb 2 r h))
+
+  upper-from : (page : ℕ) → (c .«start_line» + 8 * r) % 32 / 8 ≡ page → (c .«start_line» + 8 * r) % 8 ≡ 0 → c .«start_line» + 8 * r < 64 → r < 2 → getD ram (ramIndex page (columnOf c n)) 0 < 256 → frameByte c ram n r ≡ getD ram (ramIndex page (columnOf c n)) 0
+  upper-from page here whole near h byte =
+      let wide = rw (here, whole) at (lines-wide ram (columnOf c n) (c .«start_line» + 8 * r) near) in
+      segment-shown c ram n r (pages .display) (pages .static) (rw (pages .duty, lt-leb 2 r h)) ∙ wide byte ∙ omega arith
+
+  half-upper : r < 2 → getD ram (ramIndex (c .«start_line» / 8 + r) (columnOf c n)) 0 < 256 → frameByte c ram n r ≡ getD ram (ramIndex (c .«start_line» / 8 + r) (columnOf c n)) 0
+  half-upper h =
+      ⊎-elim (λ e. upper-from (c .«start_line» / 8 + r) (omega arith) (omega arith) (omega arith) h) (λ e. upper-from (c .«start_line» / 8 + r) (omega arith) (omega arith) (omega arith) h) (pages .line)
+
+pub half-laws : HalfLaws
+half-laws =
+    record {
+      place = λ p chip n r segment row. half-place p n r segment row chip;
+      depends = λ c d ram other n r h same. half-depends c d ram other n same r h;
+      upper = λ c ram n r pages h. half-upper c ram n r pages h;
+      lower = λ c ram n r pages h. half-lower c ram n r pages h;
+    }

@@ -1,0 +1,85 @@
+-- Pixels packed into a number, and eight RAM lines taken out of two pages at once.
+use Prim.Native.Nat.{ℕ, zero, suc, _+_, _-_, _*_, _/_, _%_, _^_, _<_, _≤_}
+use native.Mathlib.Nat.{add-mul-div-left, div-div-eq-div-mul, pow-suc}
+use native.Mathlib.Omega.{arith}
+use mathlib.Core.Path.{_≡_, refl, sym, ap, _∙_}
+use mathlib.Core.List.{List}
+use mathlib.Core.Logic.{⊎-elim}
+use lib.Dec.{ltb}
+use lib.ListN.{getD}
+use lib.Pow.{pow-pos, pow-add, shr-shr, mod-pow-add, mod-mod-pow, field}
+use borrow.Author.Tests.{ltb-true, ltb-false}
+use Rattle.sed1520.specs.Memory.{ramIndex}
+use Rattle.sed1520.proofs.Tests.{tested}
+use Rattle.frame.specs.Frame.{lineBit, packed}
+
+-- the same pixels pack to the same number
+pub packed-same : (n : ℕ) (f g : ℕ → ℕ) (at to : ℕ) → ((i : ℕ) → i < n → f (at + i) ≡ g (to + i)) → packed f at n ≡ packed g to n
+unfolding packed
+packed-same zero f g at to h = refl
+packed-same (suc n) f g at to h =
+    let first : f at ≡ g to = (let e : at + 0 ≡ at = omega arith in let e′ : to + 0 ≡ to = omega arith in rw (e, e′) at (h 0 (omega arith))) in
+    let rest = packed-same n f g (at + 1) (to + 1) (λ i l. let e : at + 1 + i ≡ at + suc i = omega arith in let e′ : to + 1 + i ≡ to + suc i = omega arith in rw (e, e′) (h (suc i) (omega arith))) in
+    rw (first, rest)
+
+-- the bits of a number pack to the number, up to so many
+pub packed-bits : (n : ℕ) (f : ℕ → ℕ) (at x : ℕ) → ((i : ℕ) → i < n → f (at + i) ≡ x / 2 ^ i % 2) → packed f at n ≡ x % 2 ^ n
+unfolding packed
+packed-bits zero f at x h = omega arith
+packed-bits (suc n) f at x h =
+    let at-first : at + 0 ≡ at = omega arith in
+    let first = rw at-first at (h 0 (omega arith)) in
+    let rest = packed-bits n f (at + 1) (x / 2) (λ i l. let e : at + 1 + i ≡ at + suc i = omega arith in let e′ : 1 + i ≡ suc i = omega arith in rw (e, shr-shr x 1 i, e′) (h (suc i) (omega arith))) in
+    let more : suc n ≡ n + 1 = omega arith in
+    rw (rest, more, mod-pow-add x n 1) (omega arith)
+
+-- a page and the next one as one number of 16 bits
+module _ (upper lower : ℕ) (byte : upper < 256) where
+  -- below 8, its bits are those of the upper page
+  pub wide-upper : (k : ℕ) → k < 8 → (upper + 256 * lower) / 2 ^ k % 2 ≡ upper / 2 ^ k % 2
+  wide-upper zero h = omega arith
+  wide-upper (suc zero) h = omega arith
+  wide-upper (suc (suc zero)) h = omega arith
+  wide-upper (suc (suc (suc zero))) h = omega arith
+  wide-upper (suc (suc (suc (suc zero)))) h = omega arith
+  wide-upper (suc (suc (suc (suc (suc zero))))) h = omega arith
+  wide-upper (suc (suc (suc (suc (suc (suc zero)))))) h = omega arith
+  wide-upper (suc (suc (suc (suc (suc (suc (suc zero))))))) h = omega arith
+  wide-upper (suc (suc (suc (suc (suc (suc (suc (suc k)))))))) h = absurd (omega arith)
+
+  -- from 8 on, those of the lower page
+  pub wide-lower : (k : ℕ) → (upper + 256 * lower) / 2 ^ (8 + k) ≡ lower / 2 ^ k
+  wide-lower k =
+      let all : (upper + 256 * lower) / 256 ≡ lower = omega arith in
+      sym (shr-shr (upper + 256 * lower) 8 k) ∙ rw all
+
+-- the eight lines from a line on
+module _ (ram : List ℕ) (column line : ℕ) (near : line < 64) where
+  -- the page of a line and the page after it, counted round
+  abbrev upper : ℕ
+  upper = getD ram (ramIndex (line % 32 / 8) column) 0
+
+  abbrev lower : ℕ
+  lower = getD ram (ramIndex ((line % 32 / 8 + 1) % 4) column) 0
+
+  module _ (byte : upper < 256) (i : ℕ) (h : i < 8) where
+    same-page : line % 8 + i < 8 → lineBit ram column (line + i) ≡ (upper + 256 * lower) / 2 ^ (line % 8 + i) % 2
+    same-page l =
+        let page : (line + i) % 32 / 8 ≡ line % 32 / 8 = omega arith in
+        let bit : (line + i) % 8 ≡ line % 8 + i = omega arith in
+        rw (page, bit) (sym (wide-upper upper lower byte (line % 8 + i) l))
+
+    next-page : 8 ≤ line % 8 + i → lineBit ram column (line + i) ≡ (upper + 256 * lower) / 2 ^ (line % 8 + i) % 2
+    next-page l =
+        let page : (line + i) % 32 / 8 ≡ (line % 32 / 8 + 1) % 4 = omega arith in
+        let bit : (line + i) % 8 ≡ line % 8 + i - 8 = omega arith in
+        let sum : line % 8 + i ≡ 8 + (line % 8 + i - 8) = omega arith in
+        rw (page, bit) (sym (ap (λ (k : ℕ). (upper + 256 * lower) / 2 ^ k % 2) sum ∙ ap (λ (k : ℕ). k % 2) (wide-lower upper lower byte (line % 8 + i - 8))))
+
+    each : lineBit ram column (line + i) ≡ (upper + 256 * lower) / 2 ^ (line % 8) / 2 ^ i % 2
+    each =
+        rw (shr-shr (upper + 256 * lower) (line % 8) i)
+        (⊎-elim (λ l. same-page (ltb-true (line % 8 + i) 8 l)) (λ l. next-page (ltb-false (line % 8 + i) 8 l)) (tested (ltb (line % 8 + i) 8)))
+
+  pub lines-wide : upper < 256 → packed (lineBit ram column) line 8 ≡ (upper + 256 * lower) / 2 ^ (line % 8) % 256
+  lines-wide byte = packed-bits 8 (lineBit ram column) line ((upper + 256 * lower) / 2 ^ (line % 8)) (each byte)

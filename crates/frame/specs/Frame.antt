@@ -1,0 +1,85 @@
+-- The frame: what the 122 by 32 panel (document 01: the glass) shows, each half driven by its own chip.
+use Prim.Native.Nat.{ℕ, zero, suc, _+_, _-_, _*_, _/_, _%_, _^_}
+use mathlib.Core.Bool.{Bool, not, _&&_, _||_}
+use mathlib.Core.List.{List, [], _∷_}
+use lib.Dec.{ltb, leb, eqb}
+use lib.ListN.{length, getD, take, drop}
+use Rattle.sed1520.specs.Choice.{if}
+use Rattle.sed1520.specs.Chip.{inRange}
+use Rattle.sed1520.specs.Memory.{ramIndex}
+use Rattle.sed1520.specs.declared.registers.Chip.{Chip}
+use Rattle.frame.specs.declared.Framed.{Framed}
+
+-- the segments that a chip drives
+abbrev pub segments : ℕ
+segments = 61
+
+-- the columns of the panel
+abbrev pub columns : ℕ
+columns = segments + segments
+
+-- the RAM column of a segment
+abbrev pub columnOf : Chip → ℕ → ℕ
+columnOf c n = if (c .reverse) (79 - n) n
+
+-- the pixel that the RAM has in a column at a line, lines counted round past 32, bit 0 of a page topmost
+abbrev pub lineBit : List ℕ → ℕ → ℕ → ℕ
+lineBit ram column line = getD ram (ramIndex (line % 32 / 8) column) 0 / 2 ^ (line % 8) % 2
+
+-- the pixel of segment n in a row: 1 lit, 0 dark
+unfoldable pub pixel : Chip → List ℕ → ℕ → ℕ → ℕ
+pixel c ram n row =
+    if (not (c .«display_on»)) 0
+    (if (c .«static_on») 1
+    (if (not (c .«duty_32») && leb 16 row) 0
+    (lineBit ram (columnOf c n) (c .«start_line» + row))))
+
+-- n pixels from a row on as a number, the first one lowest
+unfoldable pub packed : (ℕ → ℕ) → ℕ → ℕ → ℕ
+packed f row zero = 0
+packed f row (suc n) = f row + 2 * packed f (row + 1) n
+
+-- the byte of segment n in the eight rows from 8 r
+unfoldable pub frameByte : Chip → List ℕ → ℕ → ℕ → ℕ
+frameByte c ram n r = packed (pixel c ram n) (8 * r) 8
+
+-- the byte at a place of the frame: column x and r from the place, then the half that x lies in
+unfoldable pub byteAt : Chip → Chip → List ℕ → ℕ → ℕ
+byteAt left right ram i =
+    if (ltb (i % columns) segments)
+    (frameByte left (take 320 ram) (i % columns) (i / columns))
+    (frameByte right (drop 320 ram) (i % columns - segments) (i / columns))
+
+-- a function at n numbers from one on
+unfoldable pub tabulated : (ℕ → ℕ) → ℕ → ℕ → List ℕ
+tabulated f i zero = []
+tabulated f i (suc n) = f i ∷ tabulated f (i + 1) n
+
+-- the 488 bytes
+abbrev pub frameOf : Chip → Chip → List ℕ → List ℕ
+frameOf left right ram = tabulated (byteAt left right ram) 0 (4 * columns)
+
+-- what the call gives back, and the frame buffer afterwards
+pub record Outcome : Type 0 where
+  pub answer : Framed
+  pub frame : List ℕ
+
+-- an outcome from its number, its place and the buffer
+abbrev pub outcome : ℕ → ℕ → List ℕ → Outcome
+outcome n at frame = record { answer = record { number = n; place = at }; frame = frame }
+
+-- number 1: an image that is not 640, a frame that is not 488
+unfoldable pub sizesWrong : ℕ → ℕ → Bool
+sizesWrong ram frame = not (eqb ram 640) || not (eqb frame 488)
+
+-- numbers 1 and 2 (left before right), then the frame, with its length as place
+unfoldable pub framed : Chip → Chip → List ℕ → List ℕ → Outcome
+framed left right ram frame =
+    if (sizesWrong (length ram) (length frame)) (outcome 1 0 frame)
+    (if (not (inRange left)) (outcome 2 0 frame)
+    (if (not (inRange right)) (outcome 2 1 frame)
+    (outcome 0 488 (frameOf left right ram))))
+
+-- what the function gives back with the buffer as it leaves it
+abbrev pub given : Framed → List ℕ → Outcome
+given r frame = record { answer = r; frame = frame }

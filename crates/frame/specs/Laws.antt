@@ -1,0 +1,48 @@
+-- The laws by which the layers above know a frame, each about one half: a chip, its 61 columns and the first of them.
+use Prim.Native.Nat.{ℕ, _+_, _*_, _/_, _%_, _<_, _≤_}
+use mathlib.Core.Path.{_≡_}
+use mathlib.Core.Bool.{Bool, true, false, not, _&&_}
+use mathlib.Core.List.{List}
+use mathlib.Core.Logic.{_⊎_}
+use lib.Dec.{leb, eqb}
+use lib.ListN.{getD}
+use Rattle.sed1520.specs.Choice.{if}
+use Rattle.sed1520.specs.Memory.{ramIndex}
+use Rattle.sed1520.specs.Panel.{Panel, chipAt, ramAt}
+use Rattle.sed1520.specs.declared.registers.Chip.{Chip}
+use Rattle.frame.specs.Frame.{columns, segments, columnOf, frameByte, frameOf}
+
+-- the first column of a chip's half
+abbrev pub firstColumn : ℕ → ℕ
+firstColumn chip = if (eqb chip 0) 0 segments
+
+-- whether a chip shows its RAM in a row
+abbrev pub showsRam : Chip → ℕ → Bool
+showsRam c row = c .«display_on» && (not (c .«static_on») && not (not (c .«duty_32») && leb 16 row))
+
+-- the RAM byte that has the pixel of segment n in a row
+abbrev pub byteShown : Chip → List ℕ → ℕ → ℕ → ℕ
+byteShown c ram n row = getD ram (ramIndex ((c .«start_line» + row) % 32 / 8) (columnOf c n)) 0
+
+-- two chips show the same of two RAMs in segment n: equal switches and start line, and equal bytes where RAM is shown
+pub record SameShown (c d : Chip) (ram other : List ℕ) (n : ℕ) : Type 0 where
+  pub display : c .«display_on» ≡ d .«display_on»
+  pub static : c .«static_on» ≡ d .«static_on»
+  pub duty : c .«duty_32» ≡ d .«duty_32»
+  pub direction : c .reverse ≡ d .reverse
+  pub line : c .«start_line» ≡ d .«start_line»
+  pub bytes : (row : ℕ) → row < 32 → showsRam c row ≡ true → byteShown c ram n row ≡ byteShown c other n row
+
+-- a chip that shows two whole pages in rows 0 to 15: display on, static drive off, duty 1/16, start line 0 or 16
+pub record TwoPages (c : Chip) : Type 0 where
+  pub display : c .«display_on» ≡ true
+  pub static : c .«static_on» ≡ false
+  pub duty : c .«duty_32» ≡ false
+  pub line : (c .«start_line» ≡ 0) ⊎ (c .«start_line» ≡ 16)
+
+-- where a half lies in the frame; what alone it depends on; and the two whole pages, dark below
+pub record HalfLaws : Type 0 where
+  pub place : (p : Panel) (chip n r : ℕ) → n < 61 → r < 4 → getD (frameOf (p .left) (p .right) (p .ram)) (firstColumn chip + n + columns * r) 0 ≡ frameByte (chipAt p chip) (ramAt p chip) n r
+  pub depends : (c d : Chip) (ram other : List ℕ) (n r : ℕ) → r < 4 → SameShown c d ram other n → frameByte c ram n r ≡ frameByte d other n r
+  pub upper : (c : Chip) (ram : List ℕ) (n r : ℕ) → TwoPages c → r < 2 → getD ram (ramIndex (c .«start_line» / 8 + r) (columnOf c n)) 0 < 256 → frameByte c ram n r ≡ getD ram (ramIndex (c .«start_line» / 8 + r) (columnOf c n)) 0
+  pub lower : (c : Chip) (ram : List ℕ) (n r : ℕ) → TwoPages c → 2 ≤ r → frameByte c ram n r ≡ 0
