@@ -6,7 +6,7 @@
  *   pedralume_frame    gives the 122 by 32 pixels the panel shows
  *   pedralume_repaint  writes the bus records that bring a 122 by 16 picture to the panel
  *
- * So far the archive has pedralume_replay; the other two are declared for what follows.
+ * The archive has pedralume_replay and pedralume_frame; pedralume_repaint is declared for what follows.
  *
  * Chip 0 is the left one, chip 1 the right one.
  *

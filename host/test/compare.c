@@ -160,8 +160,11 @@ static void check_tail(const struct contest *c, unsigned long at, const struct b
         fail_part(c, at, part, "changed past the last that is due");
 }
 
-/* The two sides get different guard bytes, so that reading out of bounds tends to show as well. */
-static void contend(const struct contest *c, unsigned long at, const struct bundle *given, struct tally *t)
+/*
+ * Gives the answer. The two sides get different guard bytes, so that reading out of bounds tends to
+ * show as well.
+ */
+static uint64_t contend(const struct contest *c, unsigned long at, const struct bundle *given, struct tally *t)
 {
     struct bundle archive = copy_bundle(given, c->parts, 0xA5), plain = copy_bundle(given, c->parts, 0x03);
     uint64_t got = call(c, 0, &archive), want = call(c, 1, &plain);
@@ -176,6 +179,7 @@ static void contend(const struct contest *c, unsigned long at, const struct bund
     count(t, want);
     free_bundle(&archive, c->parts);
     free_bundle(&plain, c->parts);
+    return want;
 }
 
 /* A draw that never reaches a number of the call would prove little: that is a failure too. */
@@ -412,6 +416,28 @@ static void draw_frame(struct rng *g, unsigned long at, struct bundle *b)
     b->part[PART_OUTPUT] = lend_padded(g, frame, FRAME, one_in(g, 40) ? wrong_length(g, FRAME, 1000) : FRAME);
 }
 
+/* Both chips' settings in a frame that was done. One never tried would prove little: that is a failure too. */
+enum { SETTINGS = 16 * 32 };
+
+static void note_settings(bool tried[2][SETTINGS], const uint8_t *chips)
+{
+    for (unsigned chip = 0; chip < 2; chip++) {
+        const uint8_t *c = chips + CHIP * chip;
+        unsigned setting = c[PEDRALUME_START_LINE];
+        for (unsigned field = 0; field < 4; field++)
+            setting += (unsigned)c[field] << (5 + field);
+        tried[chip][setting] = true;
+    }
+}
+
+static void check_settings(bool tried[2][SETTINGS])
+{
+    for (unsigned chip = 0; chip < 2; chip++)
+        for (unsigned setting = 0; setting < SETTINGS; setting++)
+            if (!tried[chip][setting])
+                fail("frame, setting", setting, "never tried, draw more cases");
+}
+
 static void compare_frames(uint64_t seed, unsigned long cases)
 {
     static const struct contest contest = {
@@ -419,15 +445,18 @@ static void compare_frames(uint64_t seed, unsigned long cases)
         { "chips", "RAM", "frame", "" }
     };
     static const bool due[NUMBERS] = { 1, 1, 1 };
+    static bool tried[2][SETTINGS];
     struct tally tally = { 0 };
     for (unsigned long at = 0; at < cases; at++) {
         struct rng g = rng_for(seed, 2, at);
         struct bundle given;
         draw_frame(&g, at, &given);
-        contend(&contest, at, &given, &tally);
+        if (pedralume_number(contend(&contest, at, &given, &tally)) == PEDRALUME_DONE)
+            note_settings(tried, given.part[0].bytes);
         free_bundle(&given, contest.parts);
     }
     report(&contest, &tally, due);
+    check_settings(tried);
 }
 
 #endif

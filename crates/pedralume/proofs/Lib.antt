@@ -2,3 +2,4 @@ pub mod CallCases
 pub mod Marks
 pub mod RecordsUndo
 pub mod TwoRecords
+pub mod FrameCallCases

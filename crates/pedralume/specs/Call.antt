@@ -8,6 +8,8 @@ use Rattle.sed1520.specs.Choice.{if}
 use Rattle.sed1520.specs.Panel.{Panel}
 use Rattle.trace.specs.Replay.{sizesWrong, replayOf}
 use Rattle.pedralume.specs.ChipRecord.{chipBytes, chipIn, wrongChip}
+use Rattle.frame.specs.Frame.{framed}
+use Rattle.frame.specs.Frame as frame
 use Rattle.trace.specs.Replay as replay
 
 -- the 64-bit number that a call gives back: number, place, compared and differing, each in bits of its own
@@ -51,3 +53,24 @@ replayCall chips ram trace answers =
     (if (ltb (wrongChip chips) 2) (refusedCall 2 (wrongChip chips) chips ram answers)
     (if (not (eqb (length trace % 4) 0)) (refusedCall 3 (length trace / 4) chips ram answers)
     (replayed (replayOf (panelIn chips ram) trace answers)))))
+
+-- what the frame's call gives back, and what it leaves in the frame buffer; it only reads the chip records and the image
+pub record FrameCall : Type 0 where
+  pub answer : ℕ
+  pub frame : List ℕ
+
+-- both as one value
+abbrev pub frameCallOf : ℕ → List ℕ → FrameCall
+frameCallOf answer frame = record { answer = answer; frame = frame }
+
+-- a frame's outcome, its number and place packed
+abbrev pub framedCall : frame.Outcome → FrameCall
+framedCall o = frameCallOf (packed (o .answer .number) (o .answer .place) 0 0) (o .frame)
+
+-- numbers 1 and 2 (with the chip as place), then the frame
+unfoldable pub frameCall : List ℕ → List ℕ → List ℕ → FrameCall
+frameCall chips ram buffer =
+    if (not (eqb (length chips) 24)) (frameCallOf (packed 1 0 0 0) buffer)
+    (if (frame.sizesWrong (length ram) (length buffer)) (frameCallOf (packed 1 0 0 0) buffer)
+    (if (ltb (wrongChip chips) 2) (frameCallOf (packed 2 (wrongChip chips) 0 0) buffer)
+    (framedCall (framed (chipIn (take 12 chips)) (chipIn (drop 12 chips)) ram buffer))))

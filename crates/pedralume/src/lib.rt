@@ -4,9 +4,11 @@ mod packing;
 
 ghost use Prim.Native.Nat.{_≤_};
 ghost use mathlib.Core.Path.{_≡_};
-ghost use lib.ListN.{length};
+ghost use lib.ListN.{length, take, drop};
+ghost use Rattle.frame.specs.Frame.{framed};
 ghost use Rattle.trace.specs.Replay.{replayOf};
-ghost use Rattle.pedralume.specs.Call.{panelIn, replayed, replayCall, callOf};
+ghost use Rattle.pedralume.specs.Call.{panelIn, replayed, replayCall, callOf, frameCallOf, framedCall, frameCall};
+ghost use Rattle.pedralume.specs.ChipRecord.{chipIn};
 use crate::chip_record::chip_in;
 use crate::chip_record::chips_out;
 use crate::chip_record::wrong_chip;
@@ -50,4 +52,33 @@ pub extern "C" fn pedralume_replay(
         return pack(2, wrong, 0, 0);
     }
     replay_records(chips, ram, trace, answers)
+}
+
+// The frame of the chips of two records.
+fn frame_records(chips: &[u8], ram: &[u8], frame: &mut [u8]) -> u64
+    requires { ⌜ length (now chips) ≡ 24 ⌝ }
+    ensures { λ r. ⌜ frameCallOf r (now (frame .exit)) ≡ framedCall (framed (chipIn (take 12 (now (chips .entry)))) (chipIn (drop 12 (now (chips .entry)))) (now (ram .entry)) (now (frame .entry))) ⌝ }
+{
+    let left = chip_in(&chips[..12]);
+    let right = chip_in(&chips[12..]);
+    let done = frame::frame(left, right, ram, frame);
+    pack(done.number, done.place, 0, 0)
+}
+
+// The frame that two chip records and the image show, into a frame buffer.
+#[no_mangle]
+pub extern "C" fn pedralume_frame(chips: &[u8], ram: &[u8], frame: &mut [u8]) -> u64
+    ensures { λ r. ⌜ frameCallOf r (now (frame .exit)) ≡ frameCall (now (chips .entry)) (now (ram .entry)) (now (frame .entry)) ⌝ }
+{
+    if chips.len() != CHIPS_BYTES {
+        return pack(1, 0, 0, 0);
+    }
+    if frame::sizes_wrong(ram.len(), frame.len()) {
+        return pack(1, 0, 0, 0);
+    }
+    let chip = wrong_chip(chips);
+    if chip < 2 {
+        return pack(2, chip, 0, 0);
+    }
+    frame_records(chips, ram, frame)
 }
