@@ -92,9 +92,9 @@
  * Byte x + 122 * r, bit b, is the pixel at column x (0 to 121), row 8 * r + b. A frame has r 0 to 3.
  * A picture is laid out as the first 244 bytes of a frame: r 0 and 1. Columns 0 to 60 are the left
  * chip's, the others the right chip's, and each half is shown by its own chip: dark with the display
- * off; all lit with the display and static drive on; else row y of its segment n (0 to 60) is line
- * (start line + y) mod 32 of RAM column n, or 79 - n with reverse ADC, and rows 16 to 31 are dark at
- * duty 1/16.
+ * off; all lit with the display and static drive on; else row y of its segment n = x mod 61 is line
+ * (start line + y) mod 32 of RAM column n, or 79 - n with reverse ADC (line l is bit l mod 8 of page
+ * l / 8), and rows 16 to 31 are dark at duty 1/16.
  *
  *
  * WHAT EACH CALL GIVES BACK: number + 256 * place + 2^24 * compared + 2^40 * differing

@@ -295,11 +295,11 @@ fn paint_page(records: &mut [[u8; 4]], chip: &Chip, which: u8, page: u8, pixels:
     }
 }
 
-fn try_repaint(chips: &[u8], picture: &[u8], room: &mut [u8]) -> Result<Outcome, Outcome> {
+fn try_repaint(chips: &[u8], picture: &[u8], output: &mut [u8]) -> Result<Outcome, Outcome> {
     let (Some(chips), Some(picture)) = (table(chips), table::<WIDTH, 2>(picture)) else {
         return Err(Outcome::new(1, 0));
     };
-    let Some(records) = room.as_chunks_mut().0.get_mut(..REPAINT_RECORDS) else {
+    let Some(records) = output.as_chunks_mut().0.get_mut(..REPAINT_RECORDS) else {
         return Err(Outcome::new(1, 0));
     };
     let state = decode_chips(chips)?;
@@ -332,6 +332,6 @@ pub fn frame(chips: &[u8], ram: &[u8], frame: &mut [u8]) -> u64 {
     pack(try_frame(chips, ram, frame))
 }
 
-pub fn repaint(chips: &[u8], picture: &[u8], room: &mut [u8]) -> u64 {
-    pack(try_repaint(chips, picture, room))
+pub fn repaint(chips: &[u8], picture: &[u8], output: &mut [u8]) -> u64 {
+    pack(try_repaint(chips, picture, output))
 }

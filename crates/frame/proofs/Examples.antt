@@ -14,6 +14,7 @@ unfolding commanded ranFrom cycleOf stepOf actionOf commandWrite execute decodeO
 frame-examples =
     record {
       chip = chip-examples;
+      p5-static = refl;
       p5-dark = λ ram n r. segment-dark (commanded 0xAE 0xA5) ram n r refl;
       p5-lit = λ ram n r. segment-lit (commanded 0xAF 0xA5) ram n r refl refl;
       p8-row-0 = λ ram n. refl;

@@ -6,15 +6,15 @@ use mathlib.Core.Bool.{Bool, true, false, not, _&&_}
 use mathlib.Core.List.{List, [], _∷_}
 use mathlib.Core.Logic.{_⊎_, ⊎-elim}
 use lib.Dec.{leb, ltb, eqb}
-use lib.ListN.{getD, take, drop}
+use lib.ListN.{length, getD, take, drop}
 use borrow.Author.Tests.{le-leb, lt-leb, lt-ltb, le-ltb, not-false}
 use Rattle.sed1520.specs.Choice.{if}
 use Rattle.sed1520.specs.Memory.{ramIndex}
 use Rattle.sed1520.specs.Panel.{Panel, chipAt, ramAt}
 use Rattle.sed1520.specs.declared.registers.Chip.{Chip}
-use Rattle.frame.specs.Frame.{columnOf, lineBit, pixel, packed, frameByte, byteAt, tabulated, frameOf}
+use Rattle.frame.specs.Frame.{columnOf, lineBit, pixel, packedPixels, frameByte, byteAt, tabulated, frameOf}
 use Rattle.frame.specs.Laws.{firstColumn, showsRam, byteShown, SameShown, TwoPages, HalfLaws}
-use Rattle.frame.proofs.Packing.{packed-same, lines-wide}
+use Rattle.frame.proofs.Packing.{packed-same, packed-bits}
 use Rattle.frame.proofs.Segments.{segment-hidden, segment-shown}
 
 -- the value at a place of a table
@@ -23,6 +23,11 @@ unfolding tabulated
 tabulated-at f at zero i h = absurd (omega arith)
 tabulated-at f at (suc n) zero h = let e : at + 0 ≡ at = omega arith in rw e
 tabulated-at f at (suc n) (suc i) h = let e : at + 1 + i ≡ at + suc i = omega arith in tabulated-at f (at + 1) n i (omega arith) ∙ rw e
+
+tabulated-length : (f : ℕ → ℕ) (at n : ℕ) → length (tabulated f at n) ≡ n
+unfolding tabulated
+tabulated-length f at zero = refl
+tabulated-length f at (suc n) = ap suc (tabulated-length f (at + 1) n)
 
 module _ (p : Panel) (n r : ℕ) (segment : n < 61) (row : r < 4) where
   at-half : (left : Bool) → byteAt (p .left) (p .right) (p .ram) (if left 0 61 + n + 122 * r) ≡ frameByte (if left (p .left) (p .right)) (if left (take 320 (p .ram)) (drop 320 (p .ram))) n r
@@ -69,18 +74,22 @@ module _ (c : Chip) (ram : List ℕ) (n r : ℕ) (pages : TwoPages c) where
   half-lower : 2 ≤ r → frameByte c ram n r ≡ 0
   half-lower h = segment-hidden c ram n r (pages .display) (pages .static) (rw (pages .duty, le-leb 2 r h))
 
-  upper-from : (page : ℕ) → (c .«start_line» + 8 * r) % 32 / 8 ≡ page → (c .«start_line» + 8 * r) % 8 ≡ 0 → c .«start_line» + 8 * r < 64 → r < 2 → getD ram (ramIndex page (columnOf c n)) 0 < 256 → frameByte c ram n r ≡ getD ram (ramIndex page (columnOf c n)) 0
-  upper-from page here whole near h byte =
-      let wide = rw (here, whole) at (lines-wide ram (columnOf c n) (c .«start_line» + 8 * r) near) in
-      segment-shown c ram n r (pages .display) (pages .static) (rw (pages .duty, lt-leb 2 r h)) ∙ wide byte ∙ omega arith
+  upper-from : (page : ℕ) → (c .«start_line» + 8 * r) % 32 / 8 ≡ page → (c .«start_line» + 8 * r) % 8 ≡ 0 → r < 2 → frameByte c ram n r ≡ getD ram (ramIndex page (columnOf c n)) 0 % 256
+  upper-from page here whole h =
+      segment-shown c ram n r (pages .display) (pages .static) (rw (pages .duty, lt-leb 2 r h))
+      ∙ packed-bits 8 (lineBit ram (columnOf c n)) (c .«start_line» + 8 * r) (getD ram (ramIndex page (columnOf c n)) 0)
+      (λ i l. let same : (c .«start_line» + 8 * r + i) % 32 / 8 ≡ page = omega arith in
+      let bit : (c .«start_line» + 8 * r + i) % 8 ≡ i = omega arith in
+      rw (same, bit))
 
-  half-upper : r < 2 → getD ram (ramIndex (c .«start_line» / 8 + r) (columnOf c n)) 0 < 256 → frameByte c ram n r ≡ getD ram (ramIndex (c .«start_line» / 8 + r) (columnOf c n)) 0
+  half-upper : r < 2 → frameByte c ram n r ≡ getD ram (ramIndex (c .«start_line» / 8 + r) (columnOf c n)) 0 % 256
   half-upper h =
-      ⊎-elim (λ e. upper-from (c .«start_line» / 8 + r) (omega arith) (omega arith) (omega arith) h) (λ e. upper-from (c .«start_line» / 8 + r) (omega arith) (omega arith) (omega arith) h) (pages .line)
+      ⊎-elim (λ e. upper-from (c .«start_line» / 8 + r) (omega arith) (omega arith) h) (λ e. upper-from (c .«start_line» / 8 + r) (omega arith) (omega arith) h) (pages .line)
 
 pub half-laws : HalfLaws
 half-laws =
     record {
+      whole = λ left right ram. tabulated-length (byteAt left right ram) 0 488;
       place = λ p chip n r segment row. half-place p n r segment row chip;
       depends = λ c d ram other n r h same. half-depends c d ram other n same r h;
       upper = λ c ram n r pages h. half-upper c ram n r pages h;

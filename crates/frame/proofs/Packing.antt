@@ -1,4 +1,4 @@
--- Pixels packed into a number, and eight RAM lines taken out of two pages at once.
+-- Pixels packedPixels into a number, and eight RAM lines taken out of two pages at once.
 use Prim.Native.Nat.{ℕ, zero, suc, _+_, _-_, _*_, _/_, _%_, _^_, _<_, _≤_}
 use native.Mathlib.Nat.{add-mul-div-left, div-div-eq-div-mul, pow-suc}
 use native.Mathlib.Omega.{arith}
@@ -11,11 +11,11 @@ use lib.Pow.{pow-pos, pow-add, shr-shr, mod-pow-add, mod-mod-pow, field}
 use borrow.Author.Tests.{ltb-true, ltb-false}
 use Rattle.sed1520.specs.Memory.{ramIndex}
 use Rattle.sed1520.proofs.Tests.{tested}
-use Rattle.frame.specs.Frame.{lineBit, packed}
+use Rattle.frame.specs.Frame.{lineBit, packedPixels}
 
 -- the same pixels pack to the same number
-pub packed-same : (n : ℕ) (f g : ℕ → ℕ) (at to : ℕ) → ((i : ℕ) → i < n → f (at + i) ≡ g (to + i)) → packed f at n ≡ packed g to n
-unfolding packed
+pub packed-same : (n : ℕ) (f g : ℕ → ℕ) (at to : ℕ) → ((i : ℕ) → i < n → f (at + i) ≡ g (to + i)) → packedPixels f at n ≡ packedPixels g to n
+unfolding packedPixels
 packed-same zero f g at to h = refl
 packed-same (suc n) f g at to h =
     let first : f at ≡ g to = (let e : at + 0 ≡ at = omega arith in let e′ : to + 0 ≡ to = omega arith in rw (e, e′) at (h 0 (omega arith))) in
@@ -23,8 +23,8 @@ packed-same (suc n) f g at to h =
     rw (first, rest)
 
 -- the bits of a number pack to the number, up to so many
-pub packed-bits : (n : ℕ) (f : ℕ → ℕ) (at x : ℕ) → ((i : ℕ) → i < n → f (at + i) ≡ x / 2 ^ i % 2) → packed f at n ≡ x % 2 ^ n
-unfolding packed
+pub packed-bits : (n : ℕ) (f : ℕ → ℕ) (at x : ℕ) → ((i : ℕ) → i < n → f (at + i) ≡ x / 2 ^ i % 2) → packedPixels f at n ≡ x % 2 ^ n
+unfolding packedPixels
 packed-bits zero f at x h = omega arith
 packed-bits (suc n) f at x h =
     let at-first : at + 0 ≡ at = omega arith in
@@ -81,5 +81,5 @@ module _ (ram : List ℕ) (column line : ℕ) (near : line < 64) where
         rw (shr-shr (upper + 256 * lower) (line % 8) i)
         (⊎-elim (λ l. same-page (ltb-true (line % 8 + i) 8 l)) (λ l. next-page (ltb-false (line % 8 + i) 8 l)) (tested (ltb (line % 8 + i) 8)))
 
-  pub lines-wide : upper < 256 → packed (lineBit ram column) line 8 ≡ (upper + 256 * lower) / 2 ^ (line % 8) % 256
+  pub lines-wide : upper < 256 → packedPixels (lineBit ram column) line 8 ≡ (upper + 256 * lower) / 2 ^ (line % 8) % 256
   lines-wide byte = packed-bits 8 (lineBit ram column) line ((upper + 256 * lower) / 2 ^ (line % 8)) (each byte)

@@ -10,7 +10,7 @@ use borrow.Author.Tests.{le-leb, lt-leb, leb-true, leb-false}
 use Rattle.sed1520.specs.Choice.{if}
 use Rattle.sed1520.specs.declared.registers.Chip.{Chip}
 use Rattle.sed1520.proofs.Tests.{tested, when}
-use Rattle.frame.specs.Frame.{columnOf, lineBit, pixel, packed, frameByte}
+use Rattle.frame.specs.Frame.{columnOf, lineBit, pixel, packedPixels, frameByte}
 use Rattle.frame.proofs.Packing.{packed-same}
 
 -- a segment's column is one of the 80
@@ -18,7 +18,7 @@ pub column-near : (c : Chip) (n column : ℕ) → n < 61 → column ≡ columnOf
 column-near c n column h e = rw e (when (λ (k : ℕ). k < 80) (c .reverse) (λ _. omega arith) (λ _. omega arith))
 
 -- eight equal pixels
-all-pixels : (f : ℕ → ℕ) (at v : ℕ) → ((i : ℕ) → i < 8 → f (at + i) ≡ v) → packed f at 8 ≡ packed (λ (k : ℕ). v) 0 8
+all-pixels : (f : ℕ → ℕ) (at v : ℕ) → ((i : ℕ) → i < 8 → f (at + i) ≡ v) → packedPixels f at 8 ≡ packedPixels (λ (k : ℕ). v) 0 8
 all-pixels f at v h = packed-same 8 f (λ (k : ℕ). v) at 0 h
 
 -- whether a row of the eight from 8 r is hidden by the duty goes by r
@@ -29,20 +29,20 @@ hidden-row false r i h =
 
 module _ (c : Chip) (ram : List ℕ) (n r : ℕ) where
   pub segment-dark : c .«display_on» ≡ false → frameByte c ram n r ≡ 0
-  unfolding frameByte packed pixel
+  unfolding frameByte packedPixels pixel
   segment-dark off = all-pixels (pixel c ram n) (8 * r) 0 (λ i h. rw off)
 
   module _ (on : c .«display_on» ≡ true) where
     pub segment-lit : c .«static_on» ≡ true → frameByte c ram n r ≡ 255
-    unfolding frameByte packed pixel
+    unfolding frameByte packedPixels pixel
     segment-lit lit = all-pixels (pixel c ram n) (8 * r) 1 (λ i h. rw (on, lit))
 
     module _ (driven : c .«static_on» ≡ false) where
       pub segment-hidden : (not (c .«duty_32») && leb 2 r) ≡ true → frameByte c ram n r ≡ 0
-      unfolding frameByte packed pixel
+      unfolding frameByte packedPixels pixel
       segment-hidden hidden = all-pixels (pixel c ram n) (8 * r) 0 (λ i h. rw (on, driven, hidden-row (c .«duty_32») r i h, hidden))
 
-      pub segment-shown : (not (c .«duty_32») && leb 2 r) ≡ false → frameByte c ram n r ≡ packed (lineBit ram (columnOf c n)) (c .«start_line» + 8 * r) 8
+      pub segment-shown : (not (c .«duty_32») && leb 2 r) ≡ false → frameByte c ram n r ≡ packedPixels (lineBit ram (columnOf c n)) (c .«start_line» + 8 * r) 8
       unfolding frameByte pixel
       segment-shown shown =
           packed-same 8 (pixel c ram n) (lineBit ram (columnOf c n)) (8 * r) (c .«start_line» + 8 * r)

@@ -1,6 +1,7 @@
 -- The checked examples of document 01 as far as the frame goes: those of the chip, and of what a half shows after a chip's commands, over any RAM.
 use Prim.Native.Nat.{ℕ, _/_, _%_, _^_}
 use mathlib.Core.Path.{_≡_}
+use mathlib.Core.Bool.{true}
 use mathlib.Core.List.{List, [], _∷_}
 use lib.ListN.{getD}
 use Rattle.sed1520.specs.Memory.{ramIndex}
@@ -15,6 +16,7 @@ commanded first second = ran (command first ∷ command second ∷ []) .answer .
 -- the chip's examples with P5, P8 and P9
 pub record FrameExamples : Type 0 where
   pub chip : ChipExamples
+  pub p5-static : commanded 0xAE 0xA5 .«static_on» ≡ true
   pub p5-dark : (ram : List ℕ) (n r : ℕ) → frameByte (commanded 0xAE 0xA5) ram n r ≡ 0
   pub p5-lit : (ram : List ℕ) (n r : ℕ) → frameByte (commanded 0xAF 0xA5) ram n r ≡ 255
   pub p8-row-0 : (ram : List ℕ) (n : ℕ) → pixel (commanded 0xAF 0xDF) ram n 0 ≡ getD ram (ramIndex 3 n) 0 / 2 ^ 7 % 2

@@ -22,7 +22,7 @@ columns = segments + segments
 abbrev pub columnOf : Chip → ℕ → ℕ
 columnOf c n = if (c .reverse) (79 - n) n
 
--- the pixel that the RAM has in a column at a line, lines counted round past 32, bit 0 of a page topmost
+-- the pixel that the RAM has in a column at a line, line 32 being line 0 again, bit 0 of a page topmost
 abbrev pub lineBit : List ℕ → ℕ → ℕ → ℕ
 lineBit ram column line = getD ram (ramIndex (line % 32 / 8) column) 0 / 2 ^ (line % 8) % 2
 
@@ -35,15 +35,15 @@ pixel c ram n row =
     (lineBit ram (columnOf c n) (c .«start_line» + row))))
 
 -- n pixels from a row on as a number, the first one lowest
-unfoldable pub packed : (ℕ → ℕ) → ℕ → ℕ → ℕ
-packed f row zero = 0
-packed f row (suc n) = f row + 2 * packed f (row + 1) n
+unfoldable pub packedPixels : (ℕ → ℕ) → ℕ → ℕ → ℕ
+packedPixels f row zero = 0
+packedPixels f row (suc n) = f row + 2 * packedPixels f (row + 1) n
 
 -- the byte of segment n in the eight rows from 8 r
 unfoldable pub frameByte : Chip → List ℕ → ℕ → ℕ → ℕ
-frameByte c ram n r = packed (pixel c ram n) (8 * r) 8
+frameByte c ram n r = packedPixels (pixel c ram n) (8 * r) 8
 
--- the byte at a place of the frame: column x and r from the place, then the half that x lies in
+-- byte i = x + 122 r of the frame: column x, rows 8 r to 8 r + 7, by the chip of the half that x lies in
 unfoldable pub byteAt : Chip → Chip → List ℕ → ℕ → ℕ
 byteAt left right ram i =
     if (ltb (i % columns) segments)
@@ -68,7 +68,7 @@ pub record Outcome : Type 0 where
 abbrev pub outcome : ℕ → ℕ → List ℕ → Outcome
 outcome n at frame = record { answer = record { number = n; place = at }; frame = frame }
 
--- number 1: an image that is not 640, a frame that is not 488
+-- number 1: an image that is not 640 bytes, a frame that is not 488
 unfoldable pub sizesWrong : ℕ → ℕ → Bool
 sizesWrong ram frame = not (eqb ram 640) || not (eqb frame 488)
 

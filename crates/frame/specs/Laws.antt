@@ -1,11 +1,11 @@
--- The laws by which the layers above know a frame, each about one half: a chip, its 61 columns and the first of them.
+-- The laws by which the layers above know a frame, each about one half: one chip over its 320 bytes, and the 61 columns of the panel that it drives.
 use Prim.Native.Nat.{ℕ, _+_, _*_, _/_, _%_, _<_, _≤_}
 use mathlib.Core.Path.{_≡_}
 use mathlib.Core.Bool.{Bool, true, false, not, _&&_}
 use mathlib.Core.List.{List}
 use mathlib.Core.Logic.{_⊎_}
 use lib.Dec.{leb, eqb}
-use lib.ListN.{getD}
+use lib.ListN.{length, getD}
 use Rattle.sed1520.specs.Choice.{if}
 use Rattle.sed1520.specs.Memory.{ramIndex}
 use Rattle.sed1520.specs.Panel.{Panel, chipAt, ramAt}
@@ -40,9 +40,10 @@ pub record TwoPages (c : Chip) : Type 0 where
   pub duty : c .«duty_32» ≡ false
   pub line : (c .«start_line» ≡ 0) ⊎ (c .«start_line» ≡ 16)
 
--- where a half lies in the frame; what alone it depends on; and the two whole pages, dark below
+-- the frame's length and where a half lies in it; what alone a half depends on; and the two whole pages, dark below
 pub record HalfLaws : Type 0 where
+  pub whole : (left right : Chip) (ram : List ℕ) → length (frameOf left right ram) ≡ 488
   pub place : (p : Panel) (chip n r : ℕ) → n < 61 → r < 4 → getD (frameOf (p .left) (p .right) (p .ram)) (firstColumn chip + n + columns * r) 0 ≡ frameByte (chipAt p chip) (ramAt p chip) n r
   pub depends : (c d : Chip) (ram other : List ℕ) (n r : ℕ) → r < 4 → SameShown c d ram other n → frameByte c ram n r ≡ frameByte d other n r
-  pub upper : (c : Chip) (ram : List ℕ) (n r : ℕ) → TwoPages c → r < 2 → getD ram (ramIndex (c .«start_line» / 8 + r) (columnOf c n)) 0 < 256 → frameByte c ram n r ≡ getD ram (ramIndex (c .«start_line» / 8 + r) (columnOf c n)) 0
+  pub upper : (c : Chip) (ram : List ℕ) (n r : ℕ) → TwoPages c → r < 2 → frameByte c ram n r ≡ getD ram (ramIndex (c .«start_line» / 8 + r) (columnOf c n)) 0 % 256
   pub lower : (c : Chip) (ram : List ℕ) (n r : ℕ) → TwoPages c → 2 ≤ r → frameByte c ram n r ≡ 0

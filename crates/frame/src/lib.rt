@@ -4,7 +4,7 @@ ghost use mathlib.Core.Path.{_≡_};
 ghost use mathlib.Core.Bool.{_&&_, not};
 ghost use lib.Dec.{leb};
 ghost use lib.ListN.{length};
-ghost use Rattle.frame.specs.Frame.{columnOf, lineBit, packed, frameByte, byteAt, frameOf, sizesWrong, framed, given};
+ghost use Rattle.frame.specs.Frame.{columnOf, lineBit, packedPixels, frameByte, byteAt, frameOf, sizesWrong, framed, given};
 ghost use Rattle.frame.specs.Shown.{Shows, BothShow};
 use sed1520::registers::Chip;
 
@@ -33,12 +33,12 @@ fn lines_from(ram: &[u8], column: usize, line: usize) -> u8
     requires { ⌜ length (now ram) ≡ 320 ⌝ }
     requires { ⌜ column < 80 ⌝ }
     requires { ⌜ line < 64 ⌝ }
-    ensures { λ r. ⌜ r ≡ packed (lineBit (now (ram .entry)) column) line 8 ⌝ }
+    ensures { λ r. ⌜ r ≡ packedPixels (lineBit (now (ram .entry)) column) line 8 ⌝ }
 {
     let page = line % 32 / 8;
     let shift = line % 8;
-    let upper = ram[80 * page + column] as u64;
-    let lower = ram[80 * ((page + 1) % 4) + column] as u64;
+    let upper = ram[Chip::PAGE_WIDTH * page + column] as u64;
+    let lower = ram[Chip::PAGE_WIDTH * ((page + 1) % 4) + column] as u64;
     (((upper + 256 * lower) >> shift) % 256) as u8
 }
 
@@ -78,9 +78,9 @@ fn byte_at(left: Chip, right: Chip, ram: &[u8], i: usize) -> u8
     let x = i % Chip::PANEL_WIDTH;
     let r = i / Chip::PANEL_WIDTH;
     if x < Chip::SEGMENTS {
-        segment_byte(left, &ram[..320], x, r)
+        segment_byte(left, &ram[..Chip::RAM_WIDTH], x, r)
     } else {
-        segment_byte(right, &ram[320..], x - Chip::SEGMENTS, r)
+        segment_byte(right, &ram[Chip::RAM_WIDTH..], x - Chip::SEGMENTS, r)
     }
 }
 
