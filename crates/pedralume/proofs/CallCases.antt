@@ -16,7 +16,7 @@ use Rattle.trace.specs.Replay.{sizesWrong, replayOf, panelOf}
 use Rattle.trace.specs.declared.Replayed.{Replayed}
 use Rattle.trace.proofs.Bounds.{replay-bounded}
 use Rattle.trace.proofs.ReplayCases.{length-refused}
-use Rattle.trace.proofs.Upto.{rest}
+use Rattle.sed1520.proofs.Parts.{rest}
 use Rattle.pedralume.specs.ChipRecord.{chipBytes, chipIn, marksRight, recordRight, wrongChip}
 use Rattle.pedralume.specs.Call.{packed, ReplayCall, refusedCall, panelIn, replayed, callOf, replayCall}
 use Rattle.pedralume.proofs.RecordsUndo.{back}

@@ -13,7 +13,7 @@ use Rattle.sed1520.specs.declared.registers.Chip.{Chip}
 use Rattle.sed1520.proofs.Tests.{when}
 use Rattle.frame.specs.Frame.{sizesWrong, framed}
 use Rattle.frame.specs.declared.Framed.{Framed}
-use Rattle.trace.proofs.Upto.{rest}
+use Rattle.sed1520.proofs.Parts.{rest}
 use Rattle.pedralume.specs.ChipRecord.{chipIn, wrongChip}
 use Rattle.pedralume.specs.Call.{packed, FrameCall, frameCallOf, framedCall, frameCall}
 use Rattle.frame.specs.Frame as frame

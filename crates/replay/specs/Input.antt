@@ -1,4 +1,4 @@
--- What reading standard input came to. That many bytes and no more lie in the buffer is all that can be proved: the kit's contract of read leaves its bytes open.
+-- What reading standard input came to. That the count lies within the buffer is all that is proved: the kit's contract of read says nothing of the bytes.
 use Prim.Native.Nat.{ℕ}
 use Rattle.replay.specs.declared.Input.{Input}
 use Rattle.replay.specs.declared.Input.the-variants.{Read, Failed}

@@ -6,5 +6,6 @@ pub mod CycleLaws
 pub mod Examples
 pub mod OneRule
 pub mod PanelLaws
+pub mod Parts
 pub mod StepCases
 pub mod Tests

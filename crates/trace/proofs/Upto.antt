@@ -6,12 +6,13 @@ use mathlib.Core.Bool.{Bool, true, false, not, _&&_}
 use mathlib.Core.List.{List, [], _∷_}
 use lib.Dec.{eqb}
 use lib.ListN.{length, take, drop, set, length-set, length-drop}
-use lib.Seq.{take-all, drop-drop}
+use lib.Seq.{drop-drop}
 use Rattle.sed1520.specs.Choice.{if}
 use Rattle.sed1520.specs.Panel.{Panel, outcomeOf, stepped}
 use Rattle.sed1520.specs.declared.bus.Record.{Record}
 use Rattle.sed1520.specs.declared.registers.Chip.{Chip}
 use Rattle.sed1520.proofs.PanelLaws.{refused-record}
+use Rattle.sed1520.proofs.Parts.{rest}
 use Rattle.trace.specs.Records.{front, recordsIn, wholeRecords}
 use Rattle.trace.specs.Replay.{isCompared, Outcome, panelOf, runOf, ended}
 use Rattle.trace.specs.Turns.{Fits, Turned}
@@ -28,10 +29,6 @@ pub record Upto (trace : List ℕ) (space : ℕ) (whole : Outcome) (left right :
   pub fewer : compared ≤ at
   pub less : differing ≤ at
   pub ends : resumed compared differing at (panelOf left right ram) (recordsIn (drop (4 * at) trace) (length trace / 4 - at)) answers ≡ whole
-
--- the rest of the bytes from a place on, as the part of the slice that begins there
-pub rest : (bytes : List ℕ) (at : ℕ) → take (length bytes - at) (drop at bytes) ≡ drop at bytes
-rest bytes at = take-all (length bytes - at) (drop at bytes) (simp length-drop (omega arith))
 
 -- a record is left: it is the front of the bytes that are left
 next-record : (bytes : List ℕ) (n : ℕ) → 0 < n → recordsIn bytes n ≡ front bytes ∷ recordsIn (drop 4 bytes) (n - 1)

@@ -6,17 +6,14 @@ use mathlib.Core.Bool.{Bool, true, false, _&&_, and-false}
 use mathlib.Core.List.{List}
 use lib.Dec.{eqb}
 use lib.ListN.{length, getD, take, drop, length-drop}
-use lib.Seq.{take-all, drop-drop}
+use lib.Seq.{drop-drop}
 use borrow.Author.Tests.{eq-eqb, ne-eqb}
 use Rattle.sed1520.specs.Cycle.{Outcome, outcome, cycleOf}
 use Rattle.sed1520.specs.declared.registers.Chip.{Chip}
 use Rattle.sed1520.specs.declared.actions.Answer.{Answer}
 use Rattle.sed1520.specs.declared.bus.Record.{Record}
+use Rattle.sed1520.proofs.Parts.{rest}
 use Rattle.vectors.specs.Rows.{recordIn, rowAgrees, agreesFrom}
-
--- the rows from a place on, as the part of the slice that begins there
-pub rest : (rows : List ℕ) (at : ℕ) → take (length rows - at) (drop at rows) ≡ drop at rows
-rest rows at = take-all (length rows - at) (drop at rows) (simp length-drop (omega arith))
 
 module _ (row : List ℕ) (a : Answer) where
   pub wrong-number : (getD row 4 0 ≡ a .number → ⊥) → rowAgrees row a ≡ false
