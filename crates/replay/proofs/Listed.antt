@@ -12,7 +12,7 @@ use Rattle.sed1520.specs.Chip.{inRange, fresh}
 use Rattle.sed1520.specs.Panel.{Panel}
 use Rattle.sed1520.specs.declared.registers.Chip.{Chip}
 use Rattle.sed1520.proofs.Tests.{when}
-use Rattle.trace.specs.Records.{wholeRecords}
+use Rattle.sed1520.specs.Records.{wholeRecords}
 use Rattle.trace.specs.Replay.{panelOf, runOf, ended, sizesWrong, replayOf}
 use Rattle.trace.specs.declared.Replayed.{Replayed}
 use Rattle.trace.proofs.AfterEach.{replies-bound, records-length}

@@ -71,6 +71,7 @@ module _ (p : Panel) (whole : length (p .ram) ≡ 640) where
       let bytes = outcomeOf p r .ram in
       let half = cycle-keeps (chipAt p (r .chip)) (ramAt p (r .chip)) r .length ∙ half-length (r .chip) in
       record {
+        own-cycle = refl;
         own-chip = own-chip next bytes half (eqb (r .chip) 0);
         own-ram = own-ram next bytes half (eqb (r .chip) 0);
         other-chip = λ k h. other-chip next bytes half (eqb k 0) (eqb (r .chip) 0) h;

@@ -4,6 +4,7 @@ pub mod Command
 pub mod Memory
 pub mod Cycle
 pub mod Panel
+pub mod Records
 pub mod Laws
 pub mod Promises
 pub mod Examples

@@ -47,8 +47,10 @@ EveryCycleKeeps = (r : Record) (c : Chip) (ram : List ℕ) → Keeps c ram (cycl
 abbrev pub EveryCycleSteps : Type 0
 EveryCycleSteps = (r : Record) (c : Chip) (ram : List ℕ) → ListN.length ram ≡ 320 → inRange c ≡ true → cycleOf r c ram ≡ stepOf r c ram
 
--- two chips on one bus: the record's own chip and its bytes are as its cycle leaves them, the other chip and its bytes as they were
+-- two chips on one bus: the outcome is that of the cycle of the record's own chip, with its bytes; that chip and its bytes are as its cycle leaves them,
+-- the other chip and its bytes as they were
 pub record Apart (p : Panel) (r : Record) : Type 0 where
+  pub own-cycle : outcomeOf p r ≡ cycleOf r (chipAt p (r .chip)) (ramAt p (r .chip))
   pub own-chip : chipAt (stepped p r) (r .chip) ≡ outcomeOf p r .answer .chip
   pub own-ram : ramAt (stepped p r) (r .chip) ≡ outcomeOf p r .ram
   pub other-chip : (k : ℕ) → (eqb k 0 ≡ eqb (r .chip) 0 → ⊥) → chipAt (stepped p r) k ≡ chipAt p k

@@ -12,7 +12,7 @@ use Rattle.sed1520.specs.Choice.{if}
 use Rattle.sed1520.specs.Panel.{Panel, outcomeOf, stepped, after}
 use Rattle.sed1520.specs.declared.bus.Record.{Record}
 use Rattle.sed1520.proofs.Tests.{tested}
-use Rattle.trace.specs.Records.{front, recordsIn, wholeRecords}
+use Rattle.sed1520.specs.Records.{front, recordsIn, wholeRecords}
 use Rattle.trace.specs.Replay.{Reply, replied, runOf, comparedIn, differingIn, bytesOf, Outcome, ended, replayOf}
 use Rattle.trace.specs.Promises.{Runs, repliesOf, AfterEach, AfterEachRecord}
 use Rattle.trace.proofs.ReplayCases.{runs}

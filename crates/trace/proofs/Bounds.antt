@@ -11,7 +11,7 @@ use Rattle.sed1520.specs.Chip.{inRange}
 use Rattle.sed1520.specs.Panel.{Panel}
 use Rattle.sed1520.specs.declared.bus.Record.{Record}
 use Rattle.sed1520.proofs.Tests.{when}
-use Rattle.trace.specs.Records.{recordsIn, wholeRecords}
+use Rattle.sed1520.specs.Records.{recordsIn, wholeRecords}
 use Rattle.trace.specs.Replay.{Reply, runOf, isCompared, comparedIn, differingIn, Outcome, ended, sizesWrong, replayOf}
 use Rattle.trace.proofs.AfterEach.{replies-bound, records-length}
 use Rattle.trace.proofs.ReplayCases.{sizes-right}

@@ -10,7 +10,7 @@ use Rattle.sed1520.specs.Choice.{if}
 use Rattle.sed1520.specs.Chip.{inRange}
 use Rattle.sed1520.specs.Panel.{Panel}
 use Rattle.sed1520.proofs.Tests.{neither}
-use Rattle.trace.specs.Records.{wholeRecords}
+use Rattle.sed1520.specs.Records.{wholeRecords}
 use Rattle.trace.specs.Replay.{refusedAt, runOf, ended, sizesWrong, replayOf}
 use Rattle.trace.specs.Promises.{Runs}
 

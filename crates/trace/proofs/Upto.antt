@@ -13,7 +13,7 @@ use Rattle.sed1520.specs.declared.bus.Record.{Record}
 use Rattle.sed1520.specs.declared.registers.Chip.{Chip}
 use Rattle.sed1520.proofs.PanelLaws.{refused-record}
 use Rattle.sed1520.proofs.Parts.{rest}
-use Rattle.trace.specs.Records.{front, recordsIn, wholeRecords}
+use Rattle.sed1520.specs.Records.{front, recordsIn, wholeRecords}
 use Rattle.trace.specs.Replay.{isCompared, Outcome, panelOf, runOf, ended}
 use Rattle.trace.specs.Turns.{Fits, Turned}
 use Rattle.trace.specs.declared.Turn.{Turn}

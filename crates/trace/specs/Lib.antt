@@ -1,4 +1,3 @@
-pub mod Records
 pub mod Replay
 pub mod Turns
 pub mod Promises

@@ -6,7 +6,7 @@ use mathlib.Core.List.{List, _++_}
 use lib.ListN.{length, take, drop}
 use Rattle.sed1520.specs.Chip.{inRange}
 use Rattle.sed1520.specs.Panel.{Panel, after}
-use Rattle.trace.specs.Records.{wholeRecords}
+use Rattle.sed1520.specs.Records.{wholeRecords}
 use Rattle.trace.specs.Replay.{Reply, runOf, comparedIn, differingIn, bytesOf, replayOf}
 
 -- none of numbers 1 to 3

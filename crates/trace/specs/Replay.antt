@@ -9,7 +9,7 @@ use Rattle.sed1520.specs.Chip.{inRange}
 use Rattle.sed1520.specs.Panel.{Panel, outcomeOf, stepped}
 use Rattle.sed1520.specs.declared.bus.Record.{Record}
 use Rattle.sed1520.specs.declared.registers.Chip.{Chip}
-use Rattle.trace.specs.Records.{wholeRecords}
+use Rattle.sed1520.specs.Records.{wholeRecords}
 use Rattle.trace.specs.declared.Replayed.{Replayed}
 
 -- what an accepted record is answered, by kind: 0 a write, with byte 0; 1 a data read with a fresh latch, 2 one with a stale latch, 3 status, with the byte read

@@ -5,7 +5,7 @@ ghost use mathlib.Core.Bool.{_&&_, not};
 ghost use lib.Dec.{eqb};
 ghost use lib.ListN.{length};
 ghost use Rattle.sed1520.specs.Choice.{if};
-ghost use Rattle.trace.specs.Records.{front, wholeRecords};
+ghost use Rattle.sed1520.specs.Records.{front, wholeRecords};
 ghost use Rattle.trace.specs.Replay.{isCompared, panelOf, refusal, outcome, runOf, ended, sizesWrong, replayOf};
 ghost use Rattle.trace.specs.Turns.{Fits, Turned};
 use sed1520::bus::Record;

@@ -7,7 +7,7 @@ use borrow.Author.Needs.{needs}
 use native.Mathlib.Omega.{arith}
 use mathlib.Core.Path.{sym, _∙_}
 use lib.ListN.{length, length-take, length-drop, length-set}
-use Rattle.trace.specs.Records.{wholeRecords}
+use Rattle.sed1520.specs.Records.{wholeRecords}
 use Rattle.trace.specs.Replay.{panelOf, runOf, ended}
 use Rattle.trace.proofs.Upto.{Upto, at-most-one, started, finished, refused-here, accepted-here}
 use Rattle.trace.proofs.run.Statement.{statement}

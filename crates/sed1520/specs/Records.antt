@@ -1,8 +1,8 @@
--- A trace: records of 4 bytes, no header: lines, chip, data, 0.
+-- Bus records as bytes: 4 each, no header: lines, chip, data, 0.
 use Prim.Native.Nat.{ℕ, zero, suc, _/_}
 use mathlib.Core.List.{List, [], _∷_}
 use lib.ListN.{length, getD, drop}
 use Rattle.sed1520.specs.declared.bus.Record.{Record}
 
 -- the record in the first four bytes
 abbrev pub front : List ℕ → Record
