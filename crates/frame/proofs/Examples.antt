@@ -1,13 +1,15 @@
 -- The examples, computed from the definitions.
-use mathlib.Core.Path.{refl}
+use mathlib.Core.Path.{refl, _∙_}
 use Rattle.sed1520.specs.Chip.{inRange, fresh}
 use Rattle.sed1520.specs.Command.{among, decodeOf}
 use Rattle.sed1520.specs.Cycle.{execute, commandWrite, actionOf, stepOf, cycleOf}
+use Rattle.sed1520.specs.Panel.{ramAt}
 use Rattle.sed1520.specs.Examples.{ranFrom}
 use Rattle.sed1520.proofs.Examples.{chip-examples}
 use Rattle.frame.specs.Frame.{pixel}
 use Rattle.frame.specs.Examples.{commanded, FrameExamples}
 use Rattle.frame.proofs.Segments.{segment-dark, segment-lit}
+use Rattle.frame.proofs.HalfLaws.{half-laws}
 
 pub frame-examples : FrameExamples
 unfolding commanded ranFrom cycleOf stepOf actionOf commandWrite execute decodeOf among inRange fresh pixel
@@ -15,8 +17,8 @@ frame-examples =
     record {
       chip = chip-examples;
       p5-static = refl;
-      p5-dark = λ ram n r. segment-dark (commanded 0xAE 0xA5) ram n r refl;
-      p5-lit = λ ram n r. segment-lit (commanded 0xAF 0xA5) ram n r refl refl;
+      p5-dark = λ p chip e. record { at = λ n r h l. half-laws .place p chip n r h l ∙ rw e (segment-dark (commanded 0xAE 0xA5) (ramAt p chip) n r refl) };
+      p5-lit = λ p chip e. record { at = λ n r h l. half-laws .place p chip n r h l ∙ rw e (segment-lit (commanded 0xAF 0xA5) (ramAt p chip) n r refl refl) };
       p8-row-0 = λ ram n. refl;
       p8-row-1 = λ ram n. refl;
       p9-forward = refl;

@@ -1,17 +1,18 @@
 -- The frame's call, case by case.
-use Prim.Native.Nat.{ℕ, _≤_}
-use mathlib.Core.Path.{_≡_, refl, sym, ap, _∙_}
-use mathlib.Core.Bool.{Bool, true, false, not, _||_}
+use Prim.Native.Nat.{ℕ, _<_}
+use native.Mathlib.Omega.{arith}
+use mathlib.Core.Path.{_≡_, ap}
+use mathlib.Core.Bool.{true, false, not}
 use mathlib.Core.List.{List}
 use lib.Dec.{eqb}
 use lib.ListN.{length}
 use borrow.Author.Tests.{eqb-true, not-false}
-use Rattle.sed1520.specs.Choice.{if}
 use Rattle.sed1520.specs.Chip.{inRange}
 use Rattle.sed1520.specs.declared.registers.Chip.{Chip}
-use Rattle.sed1520.proofs.Tests.{neither}
-use Rattle.frame.specs.Frame.{frameOf, outcome, sizesWrong, framed}
+use Rattle.sed1520.proofs.Tests.{neither, when}
+use Rattle.frame.specs.Frame.{frameOf, Outcome, outcome, sizesWrong, framed, given}
 use Rattle.frame.specs.Shown.{BothShow}
+use Rattle.frame.specs.declared.Framed.{Framed}
 
 -- both sizes are right
 pub record Sized (ram frame : ℕ) : Type 0 where
@@ -44,3 +45,19 @@ module _ (left right : Chip) (ram frame : List ℕ) where
 
     pub both-show : inRange left ≡ true → inRange right ≡ true → BothShow left right ram
     both-show l r = record { left-range = l; right-range = r; bytes = sizes-right (length ram) (length frame) sizes .image }
+
+-- every place fits 16 bits
+pub places-small : (left right : Chip) (ram frame : List ℕ) → framed left right ram frame .answer .place < 65536
+unfolding framed
+places-small left right ram frame =
+    when Short (sizesWrong (length ram) (length frame)) (λ _. omega arith)
+    (λ _. when Short (not (inRange left)) (λ _. omega arith)
+    (λ _. when Short (not (inRange right)) (λ _. omega arith) (λ _. omega arith)))
+  where
+    Short : Outcome → Type 0
+    Short o = o .answer .place < 65536
+
+pub place-small : (left right : Chip) (ram frame : List ℕ) {a : Framed} {after : List ℕ} → given a after ≡ framed left right ram frame → a .place < 65536
+place-small left right ram frame e =
+    let place = ap (λ (o : Outcome). o .answer .place) e in
+    omega (arith, places-small left right ram frame)

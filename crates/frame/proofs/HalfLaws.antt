@@ -1,19 +1,19 @@
 -- The laws of one half.
-use Prim.Native.Nat.{ℕ, zero, suc, _+_, _-_, _*_, _/_, _%_, _^_, _<_, _≤_}
+use Prim.Native.Nat.{ℕ, zero, suc, _+_, _-_, _*_, _/_, _%_, _<_, _≤_}
 use native.Mathlib.Omega.{arith}
-use mathlib.Core.Path.{_≡_, refl, sym, ap, _∙_}
+use mathlib.Core.Path.{_≡_, refl, ap, _∙_}
 use mathlib.Core.Bool.{Bool, true, false, not, _&&_}
-use mathlib.Core.List.{List, [], _∷_}
+use mathlib.Core.List.{List}
 use mathlib.Core.Logic.{_⊎_, ⊎-elim}
-use lib.Dec.{leb, ltb, eqb}
+use lib.Dec.{leb, eqb}
 use lib.ListN.{length, getD, take, drop}
 use borrow.Author.Tests.{le-leb, lt-leb, lt-ltb, le-ltb, not-false}
 use Rattle.sed1520.specs.Choice.{if}
 use Rattle.sed1520.specs.Memory.{ramIndex}
 use Rattle.sed1520.specs.Panel.{Panel, chipAt, ramAt}
 use Rattle.sed1520.specs.declared.registers.Chip.{Chip}
-use Rattle.frame.specs.Frame.{columnOf, lineBit, pixel, packedPixels, frameByte, byteAt, tabulated, frameOf}
-use Rattle.frame.specs.Laws.{firstColumn, showsRam, byteShown, SameShown, TwoPages, HalfLaws}
+use Rattle.frame.specs.Frame.{columnOf, lineBit, pixel, frameByte, byteAt, tabulated, frameOf}
+use Rattle.frame.specs.Laws.{firstColumn, SameShown, TwoPages, HalfLaws}
 use Rattle.frame.proofs.Packing.{packed-same, packed-bits}
 use Rattle.frame.proofs.Segments.{segment-hidden, segment-shown}
 

@@ -1,13 +1,12 @@
 -- Pixels packedPixels into a number, and eight RAM lines taken out of two pages at once.
 use Prim.Native.Nat.{ℕ, zero, suc, _+_, _-_, _*_, _/_, _%_, _^_, _<_, _≤_}
-use native.Mathlib.Nat.{add-mul-div-left, div-div-eq-div-mul, pow-suc}
 use native.Mathlib.Omega.{arith}
 use mathlib.Core.Path.{_≡_, refl, sym, ap, _∙_}
 use mathlib.Core.List.{List}
 use mathlib.Core.Logic.{⊎-elim}
 use lib.Dec.{ltb}
 use lib.ListN.{getD}
-use lib.Pow.{pow-pos, pow-add, shr-shr, mod-pow-add, mod-mod-pow, field}
+use lib.Pow.{shr-shr, mod-pow-add}
 use borrow.Author.Tests.{ltb-true, ltb-false}
 use Rattle.sed1520.specs.Memory.{ramIndex}
 use Rattle.sed1520.proofs.Tests.{tested}

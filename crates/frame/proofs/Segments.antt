@@ -1,13 +1,12 @@
 -- The byte of a segment by what its chip's switches say.
-use Prim.Native.Nat.{ℕ, _+_, _*_, _<_, _≤_}
+use Prim.Native.Nat.{ℕ, _+_, _*_, _<_}
 use native.Mathlib.Omega.{arith}
-use mathlib.Core.Path.{_≡_, refl, sym, ap, _∙_}
-use mathlib.Core.Bool.{Bool, true, false, not, _&&_, and-false}
+use mathlib.Core.Path.{_≡_, refl}
+use mathlib.Core.Bool.{Bool, true, false, not, _&&_}
 use mathlib.Core.List.{List}
 use mathlib.Core.Logic.{⊎-elim}
 use lib.Dec.{leb}
 use borrow.Author.Tests.{le-leb, lt-leb, leb-true, leb-false}
-use Rattle.sed1520.specs.Choice.{if}
 use Rattle.sed1520.specs.declared.registers.Chip.{Chip}
 use Rattle.sed1520.proofs.Tests.{tested, when}
 use Rattle.frame.specs.Frame.{columnOf, lineBit, pixel, packedPixels, frameByte}

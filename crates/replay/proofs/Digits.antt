@@ -1,14 +1,12 @@
 -- Bytes put one after the other into a buffer, and the digits of a number.
 use Prim.Native.Nat.{ℕ, zero, suc, _+_, _-_, _/_, _%_, _<_, _≤_}
 use native.Mathlib.Omega.{arith}
-use mathlib.Core.Path.{_≡_, refl, sym, ap, _∙_}
-use mathlib.Core.Bool.{Bool, true, false}
+use mathlib.Core.Path.{_≡_, refl, sym, _∙_}
 use mathlib.Core.List.{List, [], _∷_, _++_}
 use lib.Dec.{ltb}
 use lib.ListN.{length, set, length-append, length-set}
 use lib.Seq.{sets}
 use borrow.Author.Tests.{lt-ltb, le-ltb}
-use Rattle.sed1520.specs.Choice.{if}
 use Rattle.sed1520.proofs.Tests.{when}
 use Rattle.replay.specs.Text.{decimal, Put}
 

@@ -1,15 +1,14 @@
 -- The actions of a chip by their cases, as equations.
 use Prim.Native.Nat.{ℕ, _+_, _<_, _≤_, zero-le}
-use mathlib.Core.Path.{_≡_, refl}
-use mathlib.Core.Bool.{Bool, true, false, _&&_, and-false}
+use mathlib.Core.Path.{_≡_}
+use mathlib.Core.Bool.{true, false, and-false}
 use mathlib.Core.List.{List}
 use mathlib.Core.Option.{none, some}
-use lib.Dec.{ltb, leb}
+use lib.Dec.{leb}
 use lib.ListN.{getD, set}
 use borrow.Author.Tests.{lt-ltb, le-ltb, le-leb}
-use Rattle.sed1520.specs.Choice.{if}
 use Rattle.sed1520.specs.Chip.{staled, withColumn, withLatch, withModify}
-use Rattle.sed1520.specs.Command.{decodeOf, within, toldCommand}
+use Rattle.sed1520.specs.Command.{decodeOf, toldCommand}
 use Rattle.sed1520.specs.Memory.{ramIndex}
 use Rattle.sed1520.specs.Cycle.{outcome, refusal, answered, execute, columnLocked, commandWrite, dataWrite, afterRead}
 use Rattle.sed1520.specs.declared.registers.Chip.{Chip}

@@ -2,7 +2,7 @@
 -- byte of a kind's range is told as that kind, and each way between commands and bytes undoes the other.
 use Prim.Native.Nat.{ℕ, _+_, _-_, _≤_, _<_}
 use native.Mathlib.Omega.{arith}
-use mathlib.Core.Path.{_≡_, refl, sym, ap, _∙_}
+use mathlib.Core.Path.{_≡_, refl, ap}
 use mathlib.Core.Bool.{Bool, true, false, _&&_, _||_, and-false, false≢true}
 use mathlib.Core.Logic.{⊎-elim}
 use mathlib.Core.List.{List, [], _∷_}
@@ -10,11 +10,9 @@ use mathlib.Core.Option.{Option, none, some, Option·none-ne-some as none-ne-som
 use lib.Dec.{ltb, leb, eqb}
 use borrow.Author.Tests.{lt-ltb, le-ltb, le-leb, lt-leb, leb-true, ltb-true, eqb-true}
 use Rattle.sed1520.proofs.Tests.{tested, either, both}
-use Rattle.sed1520.specs.Choice.{if}
-use Rattle.sed1520.specs.Command.{first, count, kinds, within, among, commandOf, decodeOf, encodeOf, told, notTold}
+use Rattle.sed1520.specs.Command.{first, count, kinds, within, among, told}
 use Rattle.sed1520.specs.declared.commands.Kind.{Kind}
 use Rattle.sed1520.specs.declared.commands.Kind.the-variants.{Display, StartLine, Page, Column, Adc, Static, Duty, Modify, End, Reset}
-use Rattle.sed1520.specs.declared.commands.Command.{Command}
 
 -- no byte from lo to hi lies in the range of k
 abbrev pub apart : ℕ → ℕ → Kind → Bool

@@ -2,17 +2,16 @@
 use Prim.Native.Nat.{ℕ, _+_, _<_}
 use native.Mathlib.Omega.{arith}
 use mathlib.Core.Path.{_≡_, refl}
-use mathlib.Core.Bool.{Bool, true, false, not, _||_}
+use mathlib.Core.Bool.{not, _||_}
 use mathlib.Core.List.{List}
 use mathlib.Core.Option.{Option, none, some}
 use lib.Dec.{ltb, leb, eqb}
 use lib.ListN.{length, length-set}
 use borrow.Author.Tests.{ltb-true}
-use Rattle.sed1520.specs.Choice.{if}
-use Rattle.sed1520.specs.Chip.{inRange, staled, withColumn}
+use Rattle.sed1520.specs.Chip.{inRange, withColumn}
 use Rattle.sed1520.specs.Command.{count, decodeOf}
 use Rattle.sed1520.specs.Memory.{ramIndex}
-use Rattle.sed1520.specs.Cycle.{Outcome, outcome, refusal, answered, execute, columnLocked, executed, commandWrite, dataWrite, afterRead, dataRead, statusRead, readLine, writeLine, addressLine, actionOf, stepOf, cycleOf}
+use Rattle.sed1520.specs.Cycle.{outcome, refusal, answered, execute, columnLocked, executed, commandWrite, dataWrite, afterRead, dataRead, readLine, writeLine, addressLine, actionOf, stepOf, cycleOf}
 use Rattle.sed1520.specs.Promises.{Keeps, EveryCycleKeeps}
 use Rattle.sed1520.specs.declared.registers.Chip.{Chip}
 use Rattle.sed1520.specs.declared.commands.Kind.{Kind}

@@ -2,13 +2,13 @@
 use Prim.Native.Nat.{ℕ, _+_, _<_}
 use native.Mathlib.Omega.{arith}
 use mathlib.Core.Path.{_≡_, refl, ap, _∙_}
-use mathlib.Core.Bool.{true, false}
+use mathlib.Core.Bool.{false}
 use mathlib.Core.List.{List}
 use lib.ListN.{length, set}
 use Rattle.sed1520.specs.Chip.{withPage, withColumn, withStartLine}
 use Rattle.sed1520.specs.Command.{first, count, Told}
 use Rattle.sed1520.specs.Memory.{ramIndex}
-use Rattle.sed1520.specs.Cycle.{Outcome, outcome, answered, execute, columnLocked, stepOf, cycleOf}
+use Rattle.sed1520.specs.Cycle.{Outcome, outcome, answered, execute, columnLocked, cycleOf}
 use Rattle.sed1520.specs.Laws.{Registers, registers, sent, Fit, Accepts, CycleLaws}
 use Rattle.sed1520.specs.declared.registers.Chip.{Chip}
 use Rattle.sed1520.specs.declared.commands.Kind.{Kind}

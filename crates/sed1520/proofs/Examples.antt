@@ -22,7 +22,7 @@ chip-examples =
       p10-bc = (refl, refl);
       p10-e3 = (refl, refl);
       p10-df = (refl, refl);
-      p11-0 = refl;
-      p11-6 = refl;
-      p11-8 = refl;
+      p11-0 = λ b. refl;
+      p11-6 = λ b. refl;
+      p11-8 = λ b. refl;
     }

@@ -1,7 +1,7 @@
 -- Commands and bytes by one rule: each way undoes the other, on exactly 175 bytes.
 use Prim.Native.Nat.{ℕ, _+_, _-_, _<_, _≤_}
 use native.Mathlib.Omega.{arith}
-use mathlib.Core.Path.{_≡_, refl, sym, ap, _∙_}
+use mathlib.Core.Path.{_≡_, refl, ap, _∙_}
 use mathlib.Core.Bool.{false, true≢false}
 use mathlib.Core.Logic.{⊎-elim}
 use mathlib.Core.Option.{Option, none, some, Option·none-ne-some as none-ne-some, Option·some-injective as some-injective}
@@ -69,6 +69,7 @@ no-byte m h = rw (le-ltb (m .argument) (count (m .kind)) h)
 pub one-rule : OneRule
 one-rule =
     record {
+      byte-of = encoded-in-range;
       there = there;
       back = λ b m e. encoded-in-range m (place-of b m e .0) ∙ ap told (place-of b m e .1);
       byte = λ b m e. omega (arith, place-of b m e .0, place-of b m e .1, range-below-256 (m .kind));

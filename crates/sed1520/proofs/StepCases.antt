@@ -1,15 +1,13 @@
 -- Which action a record asks for, and what refuses it, as equations of `stepOf` and `cycleOf`.
 use Prim.Native.Nat.{ℕ, _<_, _≤_}
-use native.Mathlib.Omega.{arith}
-use mathlib.Core.Path.{_≡_, refl, sym, ap, _∙_}
-use mathlib.Core.Bool.{Bool, true, false, not, _||_, or-true}
+use mathlib.Core.Path.{_≡_}
+use mathlib.Core.Bool.{true, false, or-true}
 use mathlib.Core.List.{List}
-use lib.Dec.{leb, eqb}
+use lib.Dec.{leb}
 use lib.ListN.{length}
 use borrow.Author.Tests.{le-leb, lt-leb, eq-eqb, ne-eqb}
-use Rattle.sed1520.specs.Choice.{if}
 use Rattle.sed1520.specs.Chip.{inRange}
-use Rattle.sed1520.specs.Cycle.{Outcome, outcome, refusal, readLine, writeLine, actionOf, commandWrite, dataWrite, dataRead, statusRead, stepOf, cycleOf}
+use Rattle.sed1520.specs.Cycle.{outcome, refusal, readLine, writeLine, actionOf, commandWrite, dataWrite, dataRead, statusRead, stepOf, cycleOf}
 use Rattle.sed1520.specs.declared.registers.Chip.{Chip}
 use Rattle.sed1520.specs.declared.bus.Record.{Record}
 use Rattle.sed1520.specs.Promises.{EveryCycleSteps}

@@ -4,8 +4,10 @@ use Prim.Native.Nat.{ℕ}
 use mathlib.Core.Path.{_≡_}
 use mathlib.Core.Bool.{true}
 use mathlib.Core.List.{List, [], _∷_, _++_}
+use lib.Dec.{eqb}
 use lib.ListN.{replicate, set}
-use Rattle.sed1520.specs.Chip.{fresh, withDisplay, withReverse, withColumn}
+use Rattle.sed1520.specs.Choice.{if}
+use Rattle.sed1520.specs.Chip.{fresh, withDisplay, withReverse, withColumn, withStartLine}
 use Rattle.sed1520.specs.Command.{told, notTold, decodeOf}
 use Rattle.sed1520.specs.Memory.{ramIndex}
 use Rattle.sed1520.specs.Cycle.{Outcome, outcome, refusal, answered, cycleOf}
@@ -17,14 +19,18 @@ use Rattle.sed1520.specs.declared.bus.Record.{Record}
 abbrev pub blank : List ℕ
 blank = replicate 320 0
 
--- what the last of some records gives back, each begun where the one before it left the chip and its RAM
+-- what the last of some records gives back, each begun where the one before it left the chip and its RAM; a refused record is the last
 unfoldable pub ranFrom : Outcome → List Record → Outcome
 ranFrom o [] = o
-ranFrom o (r ∷ rs) = ranFrom (cycleOf r (o .answer .chip) (o .ram)) rs
+ranFrom o (r ∷ rs) = if (eqb (o .answer .number) 0) (ranFrom (cycleOf r (o .answer .chip) (o .ram)) rs) o
 
 -- begun at the fresh chip
 abbrev pub ran : List Record → Outcome
 ran rs = ranFrom (outcome (answered 0 0 fresh) blank) rs
+
+-- refused: the fresh chip and its RAM as they were
+abbrev pub refused : ℕ → Outcome
+refused n = outcome (refusal n fresh) blank
 
 -- a command write to chip 0
 abbrev pub command : ℕ → Record
@@ -43,8 +49,8 @@ abbrev pub read : Record
 read = sent 5 0 0
 
 -- the sequence of P1
-abbrev pub atLast : List Record
-atLast = command 79 ∷ write 0xA5 ∷ []
+abbrev pub atLastColumn : List Record
+atLastColumn = command 79 ∷ write 0xA5 ∷ []
 
 -- the sequence of P6
 abbrev pub blink : List Record
@@ -52,19 +58,19 @@ blink = command 10 ∷ command 0xE0 ∷ read ∷ read ∷ write 0xFF ∷ []
 
 -- P1 to P4, P6, P7, P10 and P11
 pub record ChipExamples : Type 0 where
-  pub p1 : ran atLast ≡ outcome (answered 0 0 (withColumn 80 fresh)) (set blank (ramIndex 0 79) 0xA5)
-  pub p2 : ran (atLast ++ (write 0x3C ∷ [])) ≡ ran atLast
+  pub p1 : ran atLastColumn ≡ outcome (answered 0 0 (withColumn 80 fresh)) (set blank (ramIndex 0 79) 0xA5)
+  pub p2 : ran (atLastColumn ++ (write 0x3C ∷ [])) ≡ ran atLastColumn
   pub p3 : ran (command 100 ∷ write 0xA5 ∷ []) ≡ outcome (answered 0 0 (withColumn 100 fresh)) blank
   pub p4-fresh : ran (status ∷ []) .answer ≡ answered 3 0x60 fresh
   pub p4-on-reverse : ran (command 0xAF ∷ command 0xA1 ∷ status ∷ []) .answer ≡ answered 3 0x00 (withReverse true (withDisplay true fresh))
   pub p6-counted : (ran blink .answer .number ≡ 0) × (ran blink .answer .chip .column ≡ 11)
   pub p6-returned : (ran (blink ++ (command 0xEE ∷ [])) .answer .number ≡ 0) × (ran (blink ++ (command 0xEE ∷ [])) .answer .chip .column ≡ 10)
   pub p7 : ran (command 0xE0 ∷ command 0x05 ∷ []) ≡ outcome (refusal 8 (ran (command 0xE0 ∷ []) .answer .chip)) (ran (command 0xE0 ∷ []) .ram)
-  pub p10-80 : (ran (command 0x80 ∷ []) .answer .number ≡ 7) × (decodeOf 0x80 ≡ notTold 0x80)
-  pub p10-ac : (ran (command 0xAC ∷ []) .answer .number ≡ 7) × (decodeOf 0xAC ≡ notTold 0xAC)
-  pub p10-bc : (ran (command 0xBC ∷ []) .answer .number ≡ 7) × (decodeOf 0xBC ≡ notTold 0xBC)
-  pub p10-e3 : (ran (command 0xE3 ∷ []) .answer .number ≡ 7) × (decodeOf 0xE3 ≡ notTold 0xE3)
-  pub p10-df : (ran (command 0xDF ∷ []) .answer .chip .«start_line» ≡ 31) × (decodeOf 0xDF ≡ told (record { kind = StartLine; argument = 31 }))
-  pub p11-0 : ran (sent 0 0 0 ∷ []) .answer .number ≡ 6
-  pub p11-6 : ran (sent 6 0 0 ∷ []) .answer .number ≡ 6
-  pub p11-8 : ran (sent 8 2 0 ∷ []) .answer .number ≡ 4
+  pub p10-80 : (ran (command 0x80 ∷ []) ≡ refused 7) × (decodeOf 0x80 ≡ notTold 0x80)
+  pub p10-ac : (ran (command 0xAC ∷ []) ≡ refused 7) × (decodeOf 0xAC ≡ notTold 0xAC)
+  pub p10-bc : (ran (command 0xBC ∷ []) ≡ refused 7) × (decodeOf 0xBC ≡ notTold 0xBC)
+  pub p10-e3 : (ran (command 0xE3 ∷ []) ≡ refused 7) × (decodeOf 0xE3 ≡ notTold 0xE3)
+  pub p10-df : (ran (command 0xDF ∷ []) ≡ outcome (answered 0 0 (withStartLine 31 fresh)) blank) × (decodeOf 0xDF ≡ told (record { kind = StartLine; argument = 31 }))
+  pub p11-0 : (b : ℕ) → ran (sent 0 0 b ∷ []) ≡ refused 6
+  pub p11-6 : (b : ℕ) → ran (sent 6 0 b ∷ []) ≡ refused 6
+  pub p11-8 : (b : ℕ) → ran (sent 8 2 b ∷ []) ≡ refused 4

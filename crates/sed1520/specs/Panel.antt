@@ -37,7 +37,7 @@ outcomeOf p r = cycleOf r (chipAt p (r .chip)) (ramAt p (r .chip))
 unfoldable pub stepped : Panel → Record → Panel
 stepped p r = put p (r .chip) (outcomeOf p r .answer .chip) (outcomeOf p r .ram)
 
--- the panel after a list of records, one after the other
+-- the panel after a list of records, one after the other; a refused one changes nothing, and the next follows
 unfoldable pub after : Panel → List Record → Panel
 after p [] = p
 after p (r ∷ rs) = after (stepped p r) rs

@@ -7,7 +7,7 @@ use lib.Dec.{eqb}
 use lib.ListN
 use Rattle.sed1520.specs.Choice.{if}
 use Rattle.sed1520.specs.Chip.{inRange}
-use Rattle.sed1520.specs.Command.{count, told, notTold, decodeOf, encodeOf}
+use Rattle.sed1520.specs.Command.{first, count, told, notTold, decodeOf, encodeOf}
 use Rattle.sed1520.specs.Cycle.{Outcome, outcome, refusal, stepOf, cycleOf}
 use Rattle.sed1520.specs.Panel.{Panel, chipAt, ramAt, outcomeOf, stepped}
 use Rattle.sed1520.specs.declared.registers.Chip.{Chip}
@@ -23,8 +23,10 @@ countBelow test (suc n) = if (test n) 1 0 + countBelow test n
 abbrev pub isCommand : ℕ → Bool
 isCommand b = eqb (decodeOf b .number) 0
 
--- commands and bytes: each way undoes the other, on exactly 175 bytes; any other byte or command is refused with number 7, itself or its argument as place
+-- commands and bytes: a command whose argument is in range has a byte, each way undoes the other, on exactly 175 bytes; any other byte or command is
+-- refused with number 7, itself or its argument as place
 pub record OneRule : Type 0 where
+  pub byte-of : (m : Command) → m .argument < count (m .kind) → encodeOf m ≡ told (first (m .kind) + m .argument)
   pub there : (m : Command) (b : ℕ) → encodeOf m ≡ told b → decodeOf b ≡ told m
   pub back : (b : ℕ) (m : Command) → decodeOf b ≡ told m → encodeOf m ≡ told b
   pub byte : (b : ℕ) (m : Command) → decodeOf b ≡ told m → b < 256
@@ -32,7 +34,8 @@ pub record OneRule : Type 0 where
   pub no-command : (b : ℕ) → isCommand b ≡ false → decodeOf b ≡ notTold b
   pub no-byte : (m : Command) → count (m .kind) ≤ m .argument → encodeOf m ≡ notTold (m .argument)
 
--- what an outcome keeps of the chip and the RAM that a cycle was given: place 0, the RAM's length, a chip in range; and refused, it changes nothing and answers kind 0, byte 0
+-- what holds of every outcome of a cycle: place 0, the RAM's length as it was, a chip in range still in range; refused, nothing is changed and the answer
+-- is kind 0, byte 0
 pub record Keeps (c : Chip) (ram : List ℕ) (o : Outcome) : Type 0 where
   pub place : o .answer .place ≡ 0
   pub length : ListN.length (o .ram) ≡ ListN.length ram

@@ -67,7 +67,7 @@ impl Chip {
         Answer::done(0, 0, self.execute(command))
     }
 
-    // A data write. Past the last column nothing is stored.
+    // A data write. From column 80 on nothing is stored.
     pub(crate) fn data_write(mut self, byte: u8, ram: &mut [u8]) -> Answer
         ensures { λ r. ⌜ outcome r (now (ram .exit)) ≡ dataWrite byte self (now (ram .entry)) ⌝ }
     {
@@ -79,8 +79,8 @@ impl Chip {
         Answer::done(0, 0, self)
     }
 
-    // The chip after a data read: below the last column the latch is loaded from the addressed byte and the column
-    // counted on, unless read-modify-write keeps it; past it the latch turns stale.
+    // The chip after a data read: below column 80 the latch is loaded from the addressed byte and the column counted
+    // on, unless read-modify-write keeps it; from 80 on the latch turns stale.
     fn after_read(mut self, ram: &[u8]) -> Chip
         ensures { λ r. ⌜ r ≡ afterRead self (now (ram .entry)) ⌝ }
     {

@@ -1,4 +1,5 @@
-// Commands and bytes. Both ways go by one rule of specs/Command.antt: each kind has a first byte and a count of arguments.
+// Commands and bytes. Both ways go by one rule of specs/Command.antt: each kind has a first byte and a count of values that
+// its argument may take.
 ghost use mathlib.Core.Path.{_≡_};
 ghost use Rattle.sed1520.specs.Command.{first, count, kinds, among, foundKind, decodeOf, encodeOf, toldCommand, toldByte};
 
@@ -59,7 +60,7 @@ impl Kind {
         }
     }
 
-    // How many arguments there are, from 0 up.
+    // How many values the argument may take, from 0 up.
     pub fn count(self) -> u8
         ensures { λ r. ⌜ r ≡ count self ⌝ }
     {

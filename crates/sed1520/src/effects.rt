@@ -19,7 +19,7 @@ impl Chip {
         self
     }
 
-    // Read-modify-write off, back at the saved column; already off, nothing changes.
+    // Read-modify-write off, back at the saved column, none saved, the latch stale; already off, nothing changes.
     fn modify_ended(mut self) -> Chip
         ensures { λ r. ⌜ r ≡ execute End 0 self ⌝ }
     {
@@ -32,7 +32,7 @@ impl Chip {
         self
     }
 
-    // Start line, column and page 0; the rest stays.
+    // Start line, column and page 0, the latch stale; the rest stays.
     fn reset(mut self) -> Chip
         ensures { λ r. ⌜ r ≡ execute Reset 0 self ⌝ }
     {

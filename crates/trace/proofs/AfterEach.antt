@@ -1,40 +1,39 @@
 -- For every k up to the place, the replay of the first k records is done and leaves what the whole replay had after k.
-use Prim.Native.Nat.{ℕ, zero, suc, _+_, _*_, _/_, _%_, _<_, _≤_}
+use Prim.Native.Nat.{ℕ, zero, suc, _+_, _*_, _/_, _<_, _≤_}
 use native.Mathlib.Omega.{arith}
-use mathlib.Core.Path.{_≡_, refl, sym, ap, _∙_}
-use mathlib.Core.Bool.{Bool, true, false}
+use mathlib.Core.Path.{_≡_, refl, ap, _∙_}
+use mathlib.Core.Bool.{true, false}
 use mathlib.Core.List.{List, [], _∷_, _++_}
 use mathlib.Core.Logic.{⊎-elim}
 use lib.Dec.{eqb}
 use lib.ListN.{length, getD, take, drop, length-drop, List·getD-append}
 use lib.Seq.{length-take-le, take-add, drop-at, getD-take}
-use Rattle.sed1520.specs.Choice.{if}
 use Rattle.sed1520.specs.Panel.{Panel, outcomeOf, stepped, after}
 use Rattle.sed1520.specs.declared.bus.Record.{Record}
 use Rattle.sed1520.proofs.Tests.{tested}
 use Rattle.sed1520.specs.Records.{front, recordsIn, wholeRecords}
-use Rattle.trace.specs.Replay.{Reply, replied, runOf, comparedIn, differingIn, bytesOf, Outcome, ended, replayOf}
+use Rattle.trace.specs.Replay.{Reply, replied, runOf, differingIn, Outcome, ended, replayOf}
 use Rattle.trace.specs.Promises.{Runs, repliesOf, AfterEach, AfterEachRecord}
 use Rattle.trace.proofs.ReplayCases.{runs}
 
 -- a run and its panel, record by record
-run-none : (p : Panel) → runOf p [] ≡ record { number = 0; replies = []; panel = p }
+pub run-none : (p : Panel) → runOf p [] ≡ record { number = 0; replies = []; panel = p }
 unfolding runOf
 run-none p = refl
 
-run-accepted : (p : Panel) (r : Record) (rs : List Record) → eqb (outcomeOf p r .answer .number) 0 ≡ true → runOf p (r ∷ rs) ≡ replied (outcomeOf p r .answer .kind) (outcomeOf p r .answer .byte) (runOf (stepped p r) rs)
+pub run-accepted : (p : Panel) (r : Record) (rs : List Record) → eqb (outcomeOf p r .answer .number) 0 ≡ true → runOf p (r ∷ rs) ≡ replied (outcomeOf p r .answer .kind) (outcomeOf p r .answer .byte) (runOf (stepped p r) rs)
 unfolding runOf
 run-accepted p r rs t = rw t
 
-run-refused : (p : Panel) (r : Record) (rs : List Record) → eqb (outcomeOf p r .answer .number) 0 ≡ false → runOf p (r ∷ rs) ≡ record { number = outcomeOf p r .answer .number; replies = []; panel = p }
+pub run-refused : (p : Panel) (r : Record) (rs : List Record) → eqb (outcomeOf p r .answer .number) 0 ≡ false → runOf p (r ∷ rs) ≡ record { number = outcomeOf p r .answer .number; replies = []; panel = p }
 unfolding runOf
 run-refused p r rs t = rw t
 
-after-none : (p : Panel) → after p [] ≡ p
+pub after-none : (p : Panel) → after p [] ≡ p
 unfolding after
 after-none p = refl
 
-after-one : (p : Panel) (r : Record) (rs : List Record) → after p (r ∷ rs) ≡ after (stepped p r) rs
+pub after-one : (p : Panel) (r : Record) (rs : List Record) → after p (r ∷ rs) ≡ after (stepped p r) rs
 unfolding after
 after-one p r rs = refl
 

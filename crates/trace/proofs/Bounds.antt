@@ -1,17 +1,15 @@
 -- The place and the counts of any replay are at most the records that a trace can have.
-use Prim.Native.Nat.{ℕ, zero, suc, _+_, _/_, _≤_, _%_}
+use Prim.Native.Nat.{ℕ, _/_, _≤_, _%_}
 use native.Mathlib.Omega.{arith}
-use mathlib.Core.Path.{_≡_, refl}
-use mathlib.Core.Bool.{Bool, true, false, not, _&&_}
+use mathlib.Core.Bool.{not, _&&_}
 use mathlib.Core.List.{List, [], _∷_}
 use lib.Dec.{eqb}
 use lib.ListN.{length}
-use Rattle.sed1520.specs.Choice.{if}
 use Rattle.sed1520.specs.Chip.{inRange}
 use Rattle.sed1520.specs.Panel.{Panel}
 use Rattle.sed1520.specs.declared.bus.Record.{Record}
 use Rattle.sed1520.proofs.Tests.{when}
-use Rattle.sed1520.specs.Records.{recordsIn, wholeRecords}
+use Rattle.sed1520.specs.Records.{wholeRecords}
 use Rattle.trace.specs.Replay.{Reply, runOf, isCompared, comparedIn, differingIn, Outcome, ended, sizesWrong, replayOf}
 use Rattle.trace.proofs.AfterEach.{replies-bound, records-length}
 use Rattle.trace.proofs.ReplayCases.{sizes-right}

@@ -4,3 +4,4 @@ pub mod ReplayCases
 pub mod Resumed
 pub mod TakenTurn
 pub mod Upto
+pub mod Ends

@@ -2,9 +2,8 @@
 -- accepted moves one record over; a refused one, or no record left, ends it.
 use Prim.Native.Nat.{ℕ, suc, _+_, _*_, _<_, _≤_}
 use native.Mathlib.Omega.{arith}
-use native.Mathlib.Numerals.{add-one}
-use mathlib.Core.Path.{_≡_, refl, sym, ap, _∙_}
-use mathlib.Core.Bool.{Bool, true, false, not, _&&_}
+use mathlib.Core.Path.{_≡_, refl}
+use mathlib.Core.Bool.{not, _&&_}
 use mathlib.Core.List.{List, [], _∷_, _++_, append-assoc}
 use lib.Dec.{eqb}
 use lib.ListN.{length, take, drop, set, length-set, take-append-drop}
@@ -13,7 +12,7 @@ use borrow.Author.Tests.{eq-eqb, ne-eqb}
 use Rattle.sed1520.specs.Choice.{if}
 use Rattle.sed1520.specs.Panel.{Panel, outcomeOf, stepped}
 use Rattle.sed1520.specs.declared.bus.Record.{Record}
-use Rattle.trace.specs.Replay.{Reply, Run, replied, runOf, isCompared, comparedIn, differingIn, bytesOf, Outcome, ended}
+use Rattle.trace.specs.Replay.{Run, replied, runOf, isCompared, comparedIn, differingIn, bytesOf, Outcome, ended}
 
 -- two answer bytes written at a place, before the answers that follow them
 slot : (k b m n : ℕ) (xs buf : List ℕ) → suc m < length buf → suc (suc m) ≤ n → take m buf ++ (k ∷ b ∷ (xs ++ drop n buf)) ≡ take (suc (suc m)) (set (set buf m k) (suc m) b) ++ (xs ++ drop n (set (set buf m k) (suc m) b))

@@ -11,12 +11,11 @@ use lib.Seq.{take-all}
 use borrow.Author.Tests.{eq-eqb, ne-eqb}
 use Rattle.sed1520.specs.Choice.{if}
 use Rattle.sed1520.specs.Chip.{inRange}
-use Rattle.sed1520.specs.Cycle.{stepOf, cycleOf}
+use Rattle.sed1520.specs.Cycle.{stepOf}
 use Rattle.sed1520.specs.Panel.{Panel, chipAt, ramAt, put, outcomeOf, stepped}
 use Rattle.sed1520.specs.declared.actions.Answer.{Answer}
 use Rattle.sed1520.specs.declared.bus.Record.{Record}
 use Rattle.sed1520.specs.declared.registers.Chip.{Chip}
-use Rattle.sed1520.proofs.CycleKeeps.{cycle-keeps}
 use Rattle.sed1520.proofs.PanelLaws.{half-length, chips-in-range, apart}
 use Rattle.sed1520.proofs.StepCases.{cycle-step}
 use Rattle.sed1520.proofs.Tests.{tested, when}

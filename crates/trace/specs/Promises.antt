@@ -1,12 +1,12 @@
--- Demand 2 after each cycle, and not only at the end.
-use Prim.Native.Nat.{ℕ, _*_, _/_, _%_, _≤_}
+-- Demand 2 after each cycle, and not only at the end; and what of demand 1 stands when a record is refused.
+use Prim.Native.Nat.{ℕ, _*_, _/_, _%_, _<_, _≤_}
 use mathlib.Core.Path.{_≡_}
 use mathlib.Core.Bool.{true}
 use mathlib.Core.List.{List, _++_}
 use lib.ListN.{length, take, drop}
 use Rattle.sed1520.specs.Chip.{inRange}
-use Rattle.sed1520.specs.Panel.{Panel, after}
-use Rattle.sed1520.specs.Records.{wholeRecords}
+use Rattle.sed1520.specs.Panel.{Panel, outcomeOf, after}
+use Rattle.sed1520.specs.Records.{front, wholeRecords}
 use Rattle.trace.specs.Replay.{Reply, runOf, comparedIn, differingIn, bytesOf, replayOf}
 
 -- none of numbers 1 to 3
@@ -34,3 +34,15 @@ pub record AfterEach (p : Panel) (trace answers : List ℕ) (k : ℕ) : Type 0 w
 -- for every replay that numbers 1 to 3 let pass and every k up to its place
 abbrev pub AfterEachRecord : Type 0
 AfterEachRecord = (p : Panel) (trace answers : List ℕ) → Runs p trace answers → (k : ℕ) → k ≤ replayOf p trace answers .place → AfterEach p trace answers k
+
+-- how a replay ends: the panel is as the records before the place leave it; done, they are all; refused, the number is the one by which the record at the
+-- place is refused there
+pub record Ends (p : Panel) (trace answers : List ℕ) : Type 0 where
+  pub panel : replayOf p trace answers .panel ≡ after p (take (replayOf p trace answers .place) (wholeRecords trace))
+  pub done : replayOf p trace answers .number ≡ 0 → replayOf p trace answers .place ≡ length trace / 4
+  pub before : (replayOf p trace answers .number ≡ 0 → ⊥) → replayOf p trace answers .place < length trace / 4
+  pub refused : (replayOf p trace answers .number ≡ 0 → ⊥) → outcomeOf (replayOf p trace answers .panel) (front (drop (4 * replayOf p trace answers .place) trace)) .answer .number ≡ replayOf p trace answers .number
+
+-- every replay that numbers 1 to 3 let pass
+abbrev pub EveryReplayEnds : Type 0
+EveryReplayEnds = (p : Panel) (trace answers : List ℕ) → Runs p trace answers → Ends p trace answers

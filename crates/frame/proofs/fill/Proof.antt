@@ -2,7 +2,6 @@
 use native.Mathlib.Omega.{arith}
 use Prim.Native.Nat.{_-_}
 use mathlib.Core.Path.{sym, _∙_}
-use borrow.Author.Needs.{needs}
 use Rattle.frame.specs.Frame.{byteAt}
 use Rattle.frame.proofs.Filled.{Filled, none-filled, one-filled, all-filled}
 use Rattle.frame.proofs.fill.Statement.{statement}

@@ -1,6 +1,5 @@
 -- `replay::read_input` meets its contract: what was read so far lies within the buffer.
 use Prim.Native.Nat.{_-_, _≤_}
-use native.Mathlib.Omega.{arith}
 use mathlib.Core.Path.{_≡_}
 use lib.ListN.{length}
 use borrow.Author.Needs.{needs}

@@ -5,7 +5,6 @@ use mathlib.Core.Path.{_≡_, sym, ap, _∙_}
 use mathlib.Core.Option.{some}
 use borrow.Author.Needs.{needs}
 use Rattle.sed1520.specs.Command.{decodeOf, kinds, among, foundKind}
-use Rattle.sed1520.specs.declared.commands.Kind.{Kind}
 use Rattle.sed1520.proofs.CommandBytes.{range-of-kind}
 use Rattle.sed1520.proofs.commands.decode.Statement.{statement}
 use Rattle.sed1520.proofs.commands.decode.Tie as tie

@@ -1,7 +1,7 @@
 -- `sed1520::memory::load` meets its contract: past its end a list reads as 0.
 use Prim.Native.Nat.{ℕ}
 use native.Mathlib.Omega.{arith}
-use mathlib.Core.Path.{ap, sym, _∙_}
+use mathlib.Core.Path.{ap, sym}
 use lib.ListN.{List·getD-eq-default, getD}
 use borrow.Author.Needs.{needs}
 use Rattle.sed1520.proofs.memory.load.Statement.{statement}

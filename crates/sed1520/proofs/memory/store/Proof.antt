@@ -1,7 +1,7 @@
 -- `sed1520::memory::store` meets its contract: a write past its end leaves a list as it is.
 use Prim.Native.Nat.{ℕ}
 use native.Mathlib.Omega.{arith}
-use mathlib.Core.Path.{ap, sym, _∙_}
+use mathlib.Core.Path.{ap, sym}
 use lib.Seq.{set-out}
 use lib.ListN.{set}
 use borrow.Author.Needs.{needs}

@@ -3,7 +3,6 @@ use native.Mathlib.Omega.{arith}
 use mathlib.Core.Path.{sym}
 use borrow.Author.Needs.{needs}
 use Rattle.sed1520.proofs.ActionCases.{data-write-stored, data-write-stopped}
-use Rattle.sed1520.specs.Cycle.{dataWrite}
 use Rattle.sed1520.proofs.registers.Chip.data_write.Statement.{statement}
 use Rattle.sed1520.proofs.registers.Chip.data_write.Tie as tie
 
