@@ -1,0 +1,15 @@
+pub mod Walk
+pub mod Sides
+pub mod Quiet
+pub mod Painting
+pub mod Small
+pub mod Page
+pub mod Turn
+pub mod Counts
+pub mod Bytes
+pub mod Sent
+pub mod Whole
+pub mod RepaintCases
+pub mod ReadyChips
+pub mod TearFree
+pub mod Examples

@@ -1,0 +1,30 @@
+-- Ready chips, with picture and output buffer of the right sizes: number 0, place 254 and the records.
+use Prim.Native.Nat.{ℕ}
+use mathlib.Core.Path.{_≡_, refl}
+use mathlib.Core.Bool.{Bool, true, false, not, _&&_, _||_, false≢true}
+use mathlib.Core.List.{List, _++_}
+use lib.Dec.{eqb}
+use lib.ListN.{length, drop}
+use Rattle.sed1520.specs.declared.registers.Chip.{Chip}
+use Rattle.repaint.specs.Repaint.{recordsOf, bytesOf, sizesWrong, wrongLine, chipsAnswer, answer, given, repaintOf}
+use Rattle.repaint.specs.TearFree.{Ready}
+use Rattle.repaint.proofs.RepaintCases.{painted}
+
+-- a ready chip's start line is not between
+line-right : (c : Chip) → Ready c → wrongLine c ≡ false
+line-right c ready = right (eqb (c .«start_line») 0) (eqb (c .«start_line») 16) (ready .line)
+  where
+    right : (a b : Bool) → (a || b) ≡ true → (not a && not b) ≡ false
+    right true b e = refl
+    right false true e = refl
+    right false false e = absurd (false≢true e)
+
+ready-answer : (left right : Chip) → Ready left → Ready right → chipsAnswer left right ≡ answer 0 254
+unfolding chipsAnswer
+ready-answer left right l r =
+    rw (l .range, r .range, l .display, r .display, l .static, r .static, l .duty, r .duty, line-right left l, line-right right r, l .modify, r .modify)
+
+pub ready-outcome : (left right : Chip) → Ready left → Ready right → (picture buffer : List ℕ) → sizesWrong (length picture) (length buffer) ≡ false → repaintOf left right picture buffer ≡ given (answer 0 254) (bytesOf (recordsOf left right picture) ++ drop 1016 buffer)
+ready-outcome left right l r picture buffer sizes =
+    let ready = ready-answer left right l r in
+    rw ready at (painted left right picture buffer sizes (rw ready))

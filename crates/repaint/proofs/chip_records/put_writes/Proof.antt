@@ -1,0 +1,63 @@
+-- `repaint::chip_records::put_writes` meets its contract: the writes so far are at the front.
+use Prim.Native.Nat.{_-_, _*_, _≤_}
+use native.Mathlib.Omega.{arith}
+use mathlib.Core.Path.{_≡_, refl}
+use lib.ListN.{length, length-take, length-drop}
+use borrow.Author.Needs.{needs}
+use Rattle.repaint.specs.Repaint.{writes}
+use Rattle.repaint.proofs.Bytes.{Holds, holds-none, holds-write}
+use Rattle.repaint.proofs.Small.{segment-small}
+use Rattle.repaint.proofs.chip_records.put_writes.Statement.{statement}
+use Rattle.repaint.proofs.chip_records.put_writes.Tie as tie
+
+abbrev Inv-loop : tie.InvT-loop
+Inv-loop chip which picture row output₀ j₀ output j = Holds (writes chip which picture row 0 j) (4 * j) output₀ output × ((j ≤ 61) × (length output ≡ length output₀))
+
+abbrev μ-loop : tie.MeasureT-loop
+μ-loop chip which picture row output₀ j₀ output j = 61 - j
+
+loop-holds : tie.Need-loop-holds Inv-loop μ-loop
+unfolding writes
+loop-holds c = (holds-none _, (omega arith, refl))
+
+picture-byte-requires : tie.Need-picture-byte-requires Inv-loop μ-loop
+picture-byte-requires c κs =
+    let start = c .before .before .before .before .before in
+    (start .pre .0, (rw (c .segment-of .ensures) (segment-small (start .args .chip) _ (omega arith)), start .pre .1 .0))
+
+put-record-requires : tie.Need-put-record-requires Inv-loop μ-loop
+put-record-requires c κs = simp (length-take, length-drop) (omega arith)
+
+loop-again : tie.Need-loop-again Inv-loop μ-loop
+loop-again c =
+    let at = c .before .before .before .before .before .before .before .loop in
+    let start = c .before .before .before .before .before .before .before .before .before .before in
+    (holds-write (start .args .chip) (start .args .which) (start .args .picture .now) (start .args .row) (at .j) (start .args .output .now) (at .output) (at .inv .0) (c .before .before .before .before .before .segment-of .result) (c .before .before .before .before .picture-byte .result) _ (c .before .before .before .before .before .segment-of .ensures) (c .before .before .before .before .picture-byte .ensures) (c .before .before .put-record .ensures), (omega arith, search needs))
+
+same-length : tie.Need-same-length Inv-loop μ-loop
+same-length c = c .before .loop .inv .1 .1
+
+returns : tie.Need-returns Inv-loop μ-loop
+returns c =
+    let e : c .before .loop .j ≡ 61 = omega arith in
+    rw e at (c .before .loop .inv .0 .bytes)
+
+pub put-writes-spec : {M : Type 1} → statement M
+put-writes-spec =
+    tie.close
+    (tie.spec
+    Inv-loop
+    μ-loop
+    loop-holds
+    (λ c κs. omega arith)
+    picture-byte-requires
+    (λ c. omega arith)
+    (λ c. omega arith)
+    (λ c. omega arith)
+    (λ c. omega arith)
+    put-record-requires
+    (λ c. omega arith)
+    (λ c. omega arith)
+    loop-again
+    same-length
+    returns)

@@ -1,0 +1,97 @@
+-- Demand 3 of the minutes: the panel is torn (document 00: a mixed name) only between the last two cycles of a repaint. One statement about a whole
+-- list of repaints, from any panel whose chips are both ready, each repaint beginning where the one before it left the panel, each stopped after any
+-- whole cycle.
+use Prim.Native.Nat.{ℕ, _+_, _*_, _≤_, _<_}
+use mathlib.Core.Path.{_≡_}
+use mathlib.Core.Bool.{true, false, _||_}
+use mathlib.Core.List.{List, [], _∷_, _++_}
+use lib.Dec.{eqb}
+use lib.ListN.{length, getD, drop, replicate}
+use Rattle.sed1520.specs.Choice.{if}
+use Rattle.sed1520.specs.Chip.{inRange}
+use Rattle.sed1520.specs.Panel.{Panel, outcomeOf, after}
+use Rattle.sed1520.specs.Records.{front, recordsIn}
+use Rattle.sed1520.specs.declared.registers.Chip.{Chip}
+use Rattle.frame.specs.Frame.{frameOf, segments, columns}
+use Rattle.frame.specs.Laws.{firstColumn}
+use Rattle.repaint.specs.Repaint.{Outcome, sizesWrong, repaintOf}
+
+-- a chip that a repaint takes
+pub record Ready (c : Chip) : Type 0 where
+  pub range : inRange c ≡ true
+  pub display : c .«display_on» ≡ true
+  pub static : c .«static_on» ≡ false
+  pub duty : c .«duty_32» ≡ false
+  pub line : (eqb (c .«start_line») 0 || eqb (c .«start_line») 16) ≡ true
+  pub modify : c .modify ≡ false
+
+-- both chips ready, over any 640 bytes
+pub record BothReady (p : Panel) : Type 0 where
+  pub left : Ready (p .left)
+  pub right : Ready (p .right)
+  pub ram : length (p .ram) ≡ 640
+
+-- one repaint of a list: a picture and an output buffer of any length, and after how many of its cycles it stops, from none to all
+pub record Request : Type 0 where
+  pub picture : List ℕ
+  pub buffer : List ℕ
+  pub stop : ℕ
+  pub bytes : (i : ℕ) → getD picture i 0 < 256
+  pub within : stop ≤ 254
+
+-- what the repaint gives back, called with the chips as they stand
+abbrev pub asked : Panel → Request → Outcome
+asked p q = repaintOf (p .left) (p .right) (q .picture) (q .buffer)
+
+-- the panel after the first k records of the buffer
+abbrev pub sentSoFar : Panel → Request → ℕ → Panel
+sentSoFar p q k = after p (recordsIn (asked p q .buffer) k)
+
+-- where a repaint leaves the panel: done, the cycles that are sent have had their whole effect; refused, none is given
+abbrev pub leaves : Panel → Request → Panel
+leaves p q = if (eqb (asked p q .answer .number) 0) (sentSoFar p q (q .stop)) p
+
+-- the frame, as the panel stands
+abbrev pub shown : Panel → List ℕ
+shown p = frameOf (p .left) (p .right) (p .ram)
+
+-- the frame that a picture asks for: the picture in the upper 16 rows, the lower 16 dark
+abbrev pub wanted : List ℕ → List ℕ
+wanted picture = picture ++ replicate 244 0
+
+-- two frames show the same in a chip's half
+pub record SameHalf (chip : ℕ) (one other : List ℕ) : Type 0 where
+  pub at : (n r : ℕ) → n < segments → r < 4 → getD one (firstColumn chip + n + columns * r) 0 ≡ getD other (firstColumn chip + n + columns * r) 0
+
+-- refused with number 1: buffer and panel as they were
+pub record Refused (p : Panel) (q : Request) : Type 0 where
+  pub number : asked p q .answer .number ≡ 1
+  pub place : asked p q .answer .place ≡ 0
+  pub buffer : asked p q .buffer ≡ q .buffer
+  pub stays : leaves p q ≡ p
+
+-- accepted: every sent cycle accepted, both chips ready after each, and the panel torn only between the last two
+pub record Accepted (p : Panel) (q : Request) : Type 0 where
+  pub number : asked p q .answer .number ≡ 0
+  pub place : asked p q .answer .place ≡ 254
+  pub cycles : (k : ℕ) → k < q .stop → outcomeOf (sentSoFar p q k) (front (drop (4 * k) (asked p q .buffer))) .answer .number ≡ 0
+  pub places : (k : ℕ) → k < q .stop → outcomeOf (sentSoFar p q k) (front (drop (4 * k) (asked p q .buffer))) .answer .place ≡ 0
+  pub ready : (k : ℕ) → k ≤ q .stop → BothReady (sentSoFar p q k)
+  pub before : (k : ℕ) → k ≤ q .stop → k ≤ 252 → shown (sentSoFar p q k) ≡ shown p
+  pub turned : 253 ≤ q .stop → SameHalf 0 (shown (sentSoFar p q 253)) (wanted (q .picture)) × SameHalf 1 (shown (sentSoFar p q 253)) (shown p)
+  pub whole : 254 ≤ q .stop → shown (sentSoFar p q 254) ≡ wanted (q .picture)
+
+-- what is promised of one repaint: it is refused exactly when a size is wrong
+abbrev pub Safe : Panel → Request → Type 0
+Safe p q =
+    (sizesWrong (length (q .picture)) (length (q .buffer)) ≡ true → Refused p q) × (sizesWrong (length (q .picture)) (length (q .buffer)) ≡ false → Accepted p q)
+
+-- every repaint of the list, and, begun afresh from the panel that the list leaves, any other one; a panel in the middle of a repaint is left by the
+-- list that ends with that repaint stopped there
+unfoldable pub AllSafe : Panel → List Request → Type 0
+AllSafe p [] = (q : Request) → Safe p q
+AllSafe p (q ∷ qs) = Safe p q × AllSafe (leaves p q) qs
+
+-- demand 3
+abbrev pub TearFree : Type 0
+TearFree = (p : Panel) → BothReady p → (qs : List Request) → AllSafe p qs
