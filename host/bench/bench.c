@@ -1,14 +1,14 @@
 /*
  * Times the archive against the plain implementation: time for each record of a full trace (16,384
- * records), and for each frame. Both get the same bytes; the best of many turns counts, the two
- * taking turns so that both see the same machine.
+ * records), for each frame and for each repaint. Both get the same bytes; the best of many turns
+ * counts, the two taking turns so that both see the same machine.
  */
 #define _POSIX_C_SOURCE 199309L
 #include "../test/support.h"
 
 #include <time.h>
 
-enum { TURNS = 200, FRAMES_A_TURN = 256 };
+enum { TURNS = 200, CALLS_A_TURN = 256 };
 
 static double now_ns(void)
 {
@@ -110,13 +110,37 @@ static void bench_load(const char *name, void (*fill)(struct load *, struct rng 
 
 #ifdef WITH_FRAME
 
-static double time_frames(paint_call *frame, const uint8_t *chips, const uint8_t *ram, uint64_t *answer)
+/* A frame or a repaint: chips, source and output, with the length of each but the chips'. */
+struct painting {
+    const char *name;
+    const uint8_t *chips;
+    const uint8_t *source;
+    size_t source_len, output_len;
+    unsigned place;
+};
+
+static double time_painting(paint_call *paint, const struct painting *p, uint64_t *answer)
 {
-    uint8_t shown[FRAME] = { 0 };
+    uint8_t output[REPAINT] = { 0 };
     double start = now_ns();
-    for (unsigned i = 0; i < FRAMES_A_TURN; i++)
-        *answer = frame(chips, CHIPS, ram, RAM, shown, FRAME);
-    return (now_ns() - start) / FRAMES_A_TURN;
+    for (unsigned i = 0; i < CALLS_A_TURN; i++)
+        *answer = paint(p->chips, CHIPS, p->source, p->source_len, output, p->output_len);
+    return (now_ns() - start) / CALLS_A_TURN;
+}
+
+static void bench_painting(paint_call *archive, paint_call *plain, const struct painting *p)
+{
+    double best[2] = { 1e18, 1e18 };
+    paint_call *const side[2] = { archive, plain };
+    uint64_t answer[2] = { 0, 0 };
+    for (unsigned turn = 0; turn < TURNS; turn++)
+        for (unsigned i = 0; i < 2; i++) {
+            double took = time_painting(side[i], p, &answer[i]);
+            if (took < best[i])
+                best[i] = took;
+        }
+    must_agree(answer[0], answer[1], answer_of(0, p->place, 0, 0), p->name);
+    report(p->name, best[0], best[1], p->name);
 }
 
 /* The left chip forward and the right one reverse, both on, at start lines that cross pages. */
@@ -125,18 +149,23 @@ static void bench_frame(void)
     static const uint8_t chips[CHIPS] = { 1, 0, 1, 0, 0, 0, 5,  0, 0, 0, 0, 0, 1, 0, 1, 1, 0, 0, 18, 0, 0, 0, 0, 0 };
     uint8_t ram[RAM];
     struct rng g = { 1520 };
-    double best[2] = { 1e18, 1e18 };
-    paint_call *const side[2] = { pedralume_frame, plain_frame };
-    uint64_t answer[2] = { 0, 0 };
     random_bytes(&g, ram, RAM);
-    for (unsigned turn = 0; turn < TURNS; turn++)
-        for (unsigned i = 0; i < 2; i++) {
-            double took = time_frames(side[i], chips, ram, &answer[i]);
-            if (took < best[i])
-                best[i] = took;
-        }
-    must_agree(answer[0], answer[1], answer_of(0, FRAME, 0, 0), "frame");
-    report("frame", best[0], best[1], "frame");
+    bench_painting(pedralume_frame, plain_frame, &(struct painting){ "frame", chips, ram, RAM, FRAME, FRAME });
+}
+
+#endif
+
+#ifdef WITH_REPAINT
+
+/* The left chip forward at start line 0, the right one reverse at 16. */
+static void bench_repaint(void)
+{
+    static const uint8_t chips[CHIPS] = { 1, 0, 0, 0, 0, 0, 0,  0, 0, 0, 0, 0, 1, 0, 0, 1, 0, 0, 16, 0, 0, 0, 0, 0 };
+    uint8_t picture[PICTURE];
+    struct rng g = { 1520 };
+    random_bytes(&g, picture, PICTURE);
+    bench_painting(pedralume_repaint, plain_repaint,
+                   &(struct painting){ "repaint", chips, picture, PICTURE, REPAINT, REPAINT_RECORDS });
 }
 
 #endif
@@ -149,9 +178,12 @@ int main(void)
     bench_load("all reads", load_reads);
     bench_load("mixed", load_mixed);
 #ifdef WITH_FRAME
-    printf("bench: best of %u turns of %u frames; the frame buffer cleared once a turn, untimed\n",
-           (unsigned)TURNS, (unsigned)FRAMES_A_TURN);
+    printf("bench: best of %u turns of %u calls; the output buffer cleared once a turn, untimed\n",
+           (unsigned)TURNS, (unsigned)CALLS_A_TURN);
     bench_frame();
+#endif
+#ifdef WITH_REPAINT
+    bench_repaint();
 #endif
     return EXIT_SUCCESS;
 }

@@ -6,8 +6,6 @@
  *   pedralume_frame    gives the 122 by 32 pixels the panel shows
  *   pedralume_repaint  writes the bus records that bring a 122 by 16 picture to the panel
  *
- * The archive has pedralume_replay and pedralume_frame; pedralume_repaint is declared for what follows.
- *
  * Chip 0 is the left one, chip 1 the right one.
  *
  * Words. The paper that fixes the behaviour, document 01, says "holder" for the read latch, "room"
@@ -97,6 +95,21 @@
  * l / 8), and rows 16 to 31 are dark at duty 1/16.
  *
  *
+ * REPAINT, 254 trace records, 1,016 bytes
+ *
+ * A chip is ready with display on, static drive off, duty 1/16, start line 0 or 16 and
+ * read-modify-write off. It then shows two pages and hides the other two: 2 and 3 at start line 0,
+ * 0 and 1 at start line 16. The records, all writes:
+ *   - for the left chip, then the right one, for each of its hidden pages, the lower one first (it
+ *     takes picture row r = 0): set page, set column (0, or 19 with reverse ADC), 61 data writes;
+ *   - left start line, then right start line, each turned from 0 to 16 or from 16 to 0.
+ * Sent in order with nobody else on the bus, each is accepted and leaves both chips ready. The panel
+ * keeps what it showed until 252 records are sent; after 253 the left half is the picture's and the
+ * right half as before; after 254 all is the picture's, with rows 16 to 31 dark. A repaint may be
+ * given up after any record: a new one, called with the chips as they are then and sent whole, ends
+ * at its own picture.
+ *
+ *
  * WHAT EACH CALL GIVES BACK: number + 256 * place + 2^24 * compared + 2^40 * differing
  *
  * Take it apart with pedralume_number, _place, _compared and _differing below. compared and
@@ -148,6 +161,15 @@
  *   else
  *       printf("%u of %u compared reads differ\n",            // 0 of 1
  *              pedralume_differing(answer), pedralume_compared(answer));
+ *
+ * A repaint, from chips that are ready, sent to the model as it would be to the panel:
+ *
+ *   uint8_t picture[PEDRALUME_PICTURE_BYTES] = { 0x01 };      // the first pixel
+ *   uint8_t records[PEDRALUME_REPAINT_BYTES];
+ *   uint8_t given[PEDRALUME_REPAINT_RECORDS * PEDRALUME_ANSWER_BYTES];
+ *   answer = pedralume_repaint(chips, sizeof chips, picture, sizeof picture, records, sizeof records);
+ *   if (pedralume_number(answer) == PEDRALUME_DONE)
+ *       pedralume_replay(chips, sizeof chips, ram, sizeof ram, records, sizeof records, given, sizeof given);
  */
 #ifndef PEDRALUME_H
 #define PEDRALUME_H
@@ -244,11 +266,8 @@ uint64_t pedralume_frame(const uint8_t *chips, size_t chips_len,
 
 /*
  * Writes the 254 trace records (1,016 bytes) that bring the picture to the panel: first the 16 rows
- * not being shown, last the left and then the right start line. Bytes past these stay. Both chips
- * must be ready: display on, static drive off, duty 1/16, start line 0 or 16, read-modify-write off.
- * Sent in order and with nobody else on the bus, the panel keeps what it showed until 252
- * records are sent; after 253 the left half is new, after all 254 both are, with the lower 16 rows
- * dark.
+ * that each chip hides, last the left and then the right start line. Bytes past these stay. It
+ * sends nothing; both chips must be ready.
  */
 uint64_t pedralume_repaint(const uint8_t *chips, size_t chips_len,
                            const uint8_t *picture, size_t picture_len,

@@ -1,16 +1,21 @@
 #!/usr/bin/env python3
-"""Writes name.trace: firmware sets up both chips and writes OLIVEIRA across them.
+"""Writes the example: a trace that puts one name on the panel, and the picture of another.
 
-Usage: make_name.py TRACE [PBM]. The PBM is the picture as drawn here, before any chip has seen it.
+Usage: make_name.py TRACE PICTURE
 
-The left chip counts forward (ADC A0), the right one is mounted in reverse (A1): its segment n shows
-RAM column 79 - n.
+In TRACE firmware sets up both chips and writes OLIVEIRA across them. The left chip counts forward
+(ADC A0), the right one is mounted in reverse (A1): its segment n shows RAM column 79 - n. Both end
+ready for a repaint: display on, static drive off, duty 1/16, start line 0, read-modify-write off.
+
+PICTURE is MONTEIRO, a plain PBM (P1) of 122 by 16. The E lies on both chips and is the same in both
+names, so a panel caught between the two shows a third, MONTEIRA.
 """
 import sys
 
-NAME, LEFT, TOP, SCALE = "OLIVEIRA", 9, 8, 2    # the E lies on both chips
-RULE = 25                                       # row of the line below the name
-WIDTH, HEIGHT, SEGMENTS, PAGES = 122, 32, 61, 4
+SHOWN, WANTED = "OLIVEIRA", "MONTEIRO"
+LEFT, SCALE = 9, 2
+RULE = 15                                       # row of the line below the name
+WIDTH, HEIGHT, SEGMENTS, PAGES = 122, 16, 61, 4
 COMMAND, DATA, STATUS, READ = 2, 3, 4, 5        # the lines of a record
 
 FONT = {
@@ -18,28 +23,30 @@ FONT = {
     "E": ("#####", "#....", "#....", "####.", "#....", "#....", "#####"),
     "I": (".###.", "..#..", "..#..", "..#..", "..#..", "..#..", ".###."),
     "L": ("#....", "#....", "#....", "#....", "#....", "#....", "#####"),
+    "M": ("#...#", "##.##", "#.#.#", "#.#.#", "#...#", "#...#", "#...#"),
+    "N": ("#...#", "##..#", "#.#.#", "#..##", "#...#", "#...#", "#...#"),
     "O": (".###.", "#...#", "#...#", "#...#", "#...#", "#...#", ".###."),
     "R": ("####.", "#...#", "#...#", "####.", "#.#..", "#..#.", "#...#"),
+    "T": ("#####", "..#..", "..#..", "..#..", "..#..", "..#..", "..#.."),
     "V": ("#...#", "#...#", "#...#", "#...#", "#...#", ".#.#.", "..#.."),
 }
 
 
-def draw():
+def draw(name):
     """The lit pixels, as (column, row) of the panel."""
     lit = set()
-    for i, letter in enumerate(NAME):
+    for i, letter in enumerate(name):
         for y in range(7 * SCALE):
             for x in range(5 * SCALE):
                 if FONT[letter][y // SCALE][x // SCALE] == "#":
-                    lit.add((LEFT + 6 * SCALE * i + x, TOP + y))
-    return lit | {(x, RULE) for x in range(LEFT, LEFT + 6 * SCALE * len(NAME) - SCALE)}
+                    lit.add((LEFT + 6 * SCALE * i + x, y))
+    return lit | {(x, RULE) for x in range(LEFT, LEFT + 6 * SCALE * len(name) - SCALE)}
 
 
-def pbm(lit):
-    rows = bytearray(16 * HEIGHT)
-    for x, y in lit:
-        rows[16 * y + x // 8] |= 0x80 >> x % 8
-    return b"P4\n%d %d\n" % (WIDTH, HEIGHT) + rows
+def plain_pbm(name):
+    lit = draw(name)
+    rows = ("".join("01"[(x, y) in lit] for x in range(WIDTH)) for y in range(HEIGHT))
+    return "P1\n# %s\n%d %d\n%s\n" % (name, WIDTH, HEIGHT, "\n".join(rows))
 
 
 class Chip:
@@ -81,7 +88,7 @@ class Chip:
     def setup(self):
         self.read_status()
         for byte in (0xE2,                              # reset
-                     0xAE, 0xA4, 0xA9,                  # display off, static drive off, duty 1/32
+                     0xAE, 0xA4, 0xA8,                  # display off, static drive off, duty 1/16
                      0xA1 if self.reverse else 0xA0,    # ADC
                      0xEE, 0xC0):                       # read-modify-write off, start line 0
             self.command(byte)
@@ -114,8 +121,8 @@ class Chip:
             self.read()
 
 
-def main(trace_path, pbm_path=None):
-    lit, trace = draw(), bytearray()
+def main(trace_path, picture_path):
+    lit, trace = draw(SHOWN), bytearray()
     chips = Chip(trace, 0, False), Chip(trace, 1, True)
     for step in (Chip.setup, Chip.clear, lambda chip: chip.command(0xAF),
                  lambda chip: chip.paint(lit), Chip.check):
@@ -123,12 +130,11 @@ def main(trace_path, pbm_path=None):
             step(chip)
     with open(trace_path, "wb") as file:
         file.write(trace)
-    if pbm_path:
-        with open(pbm_path, "wb") as file:
-            file.write(pbm(lit))
+    with open(picture_path, "w", newline="\n") as file:
+        file.write(plain_pbm(WANTED))
 
 
 if __name__ == "__main__":
-    if len(sys.argv) not in (2, 3):
+    if len(sys.argv) != 3:
         sys.exit(__doc__)
     main(*sys.argv[1:])

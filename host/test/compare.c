@@ -1,7 +1,6 @@
 /*
  * Drives the archive and the plain implementation side by side on random calls, and compares every
- * byte lent, guard bytes around it, and the 64-bit answers. With repaint it also sends random lists
- * of repaints through the archive, cycle by cycle, and holds them to demand 3.
+ * byte lent, guard bytes around it, and the 64-bit answers.
  *
  *   compare [seed [cases]]
  *
@@ -197,14 +196,6 @@ static void report(const struct contest *c, const struct tally *t, const bool *d
             fail(c->name, number, "number never given, draw more cases");
 }
 
-static struct rng rng_for(uint64_t seed, uint64_t stream, uint64_t at)
-{
-    struct rng g = { seed ^ stream << 56 };
-    g.state = rng_next(&g) + at * 0xD1342543DE82EF95u;
-    rng_next(&g);
-    return g;
-}
-
 /* ---- damaged chips and lengths ---- */
 
 static void spoil_chip(struct rng *g, uint8_t *chip)
@@ -225,13 +216,6 @@ static void spoil_chips(struct rng *g, uint8_t *chips)
     for (unsigned chip = 0; chip < 2; chip++)
         if (which >> chip & 1)
             spoil_chip(g, chips + CHIP * chip);
-}
-
-/* Any length from 0 to most but the right one, often next to it. */
-static size_t wrong_length(struct rng *g, unsigned right, unsigned most)
-{
-    unsigned len = one_in(g, 3) ? right + 1 : one_in(g, 2) ? right - 1 : below(g, most + 1);
-    return len == right ? 0 : len;
 }
 
 /* Fills a source that is long enough for any wrong length. */
@@ -465,20 +449,6 @@ static void compare_frames(uint64_t seed, unsigned long cases)
 
 /* ---- random repaints ---- */
 
-static bool is_ready(const uint8_t *chip)
-{
-    return chip[PEDRALUME_DISPLAY] == 1 && chip[PEDRALUME_STATIC] == 0 && chip[PEDRALUME_DUTY] == 0 &&
-           (chip[PEDRALUME_START_LINE] == 0 || chip[PEDRALUME_START_LINE] == 16) && chip[PEDRALUME_RMW] == 0;
-}
-
-static void draw_ready_chip(struct rng *g, uint8_t *chip)
-{
-    draw_chip(g, chip);
-    chip[PEDRALUME_DISPLAY] = 1;
-    chip[PEDRALUME_STATIC] = chip[PEDRALUME_DUTY] = chip[PEDRALUME_RMW] = chip[PEDRALUME_SAVED_COLUMN] = 0;
-    chip[PEDRALUME_START_LINE] = one_in(g, 2) ? 0 : 16;
-}
-
 /* Takes one to three things away that a ready chip has. */
 static void unready_chip(struct rng *g, uint8_t *chip)
 {
@@ -500,18 +470,6 @@ static void unready_chip(struct rng *g, uint8_t *chip)
             chip[PEDRALUME_RMW] = 1;
             chip[PEDRALUME_SAVED_COLUMN] = (uint8_t)below(g, 128);
         }
-}
-
-static size_t draw_output_length(struct rng *g)
-{
-    if (one_in(g, 20))
-        return one_in(g, 2) ? REPAINT - 1 : below(g, REPAINT);
-    return one_in(g, 2) ? REPAINT : REPAINT + below(g, 200);
-}
-
-static size_t draw_picture_length(struct rng *g)
-{
-    return one_in(g, 20) ? wrong_length(g, PICTURE, 600) : PICTURE;
 }
 
 static void draw_repaint(struct rng *g, struct bundle *b)
@@ -549,125 +507,6 @@ static void compare_repaints(uint64_t seed, unsigned long cases)
     report(&contest, &tally, due);
 }
 
-/* ---- demand 3: lists of repaints, each stopped anywhere, through the archive alone ---- */
-
-struct desk {
-    uint8_t chips[CHIPS], ram[RAM];
-    unsigned long list, repaints, refused, cycles;
-    size_t sent;                            /* cycles of the present repaint */
-};
-
-static void fail_list(const struct desk *d, const char *what)
-{
-    char text[128];
-    snprintf(text, sizeof text, "repaint %lu (of all lists), after %zu cycles: %s", d->repaints, d->sent, what);
-    fail("list", d->list, text);
-}
-
-static void take_frame(const struct desk *d, uint8_t *frame)
-{
-    uint64_t answer = pedralume_frame(d->chips, CHIPS, d->ram, RAM, frame, FRAME);
-    if (answer != answer_of(0, FRAME, 0, 0))
-        fail_list(d, "frame refused");
-}
-
-/* Gives one record to the cycle, as a replay of one. */
-static void send_record(struct desk *d, const uint8_t *record)
-{
-    uint8_t answer[2] = { 0xEE, 0xEE };
-    uint64_t got = pedralume_replay(d->chips, CHIPS, d->ram, RAM, record, RECORD, answer, sizeof answer);
-    d->sent++;
-    d->cycles++;
-    if (got != answer_of(0, 1, 0, 0) || answer[0] != PEDRALUME_KIND_WRITE || answer[1] != 0)
-        fail_list(d, "cycle not accepted");
-}
-
-static bool same_half(const uint8_t *a, const uint8_t *b, unsigned chip)
-{
-    for (unsigned r = 0; r < 4; r++) {
-        size_t at = WIDTH * r + HALF_WIDTH * chip;
-        if (memcmp(a + at, b + at, HALF_WIDTH) != 0)
-            return false;
-    }
-    return true;
-}
-
-/* What the panel must show after the cycles sent. */
-static void check_shown(const struct desk *d, const uint8_t *before, const uint8_t *wanted)
-{
-    uint8_t now[FRAME];
-    take_frame(d, now);
-    if (!same_half(now, d->sent >= 253 ? wanted : before, 0))
-        fail_list(d, "the left half shows what it must not");
-    if (!same_half(now, d->sent >= 254 ? wanted : before, 1))
-        fail_list(d, "the right half shows what it must not");
-    if (!is_ready(d->chips) || !is_ready(d->chips + CHIP))
-        fail_list(d, "a chip is not ready");
-}
-
-/* Calls repaint on both sides; gives whether it was done. It is refused exactly by wrong lengths. */
-static bool call_repaint(struct desk *d, const uint8_t *picture, size_t picture_len, uint8_t *output, size_t output_len)
-{
-    uint8_t plain[REPAINT + 200];
-    bool accept = picture_len == PICTURE && output_len >= REPAINT;
-    memcpy(plain, output, output_len);
-    uint64_t got = pedralume_repaint(d->chips, CHIPS, picture, picture_len, output, output_len);
-    uint64_t want = plain_repaint(d->chips, CHIPS, picture, picture_len, plain, output_len);
-    d->sent = 0;
-    d->repaints++;
-    d->refused += !accept;
-    if (got != want || got != (accept ? answer_of(0, REPAINT_RECORDS, 0, 0) : answer_of(1, 0, 0, 0)))
-        fail_list(d, "repaint refused or accepted wrongly");
-    if (memcmp(output, plain, output_len) != 0)
-        fail_list(d, "records differ from the plain implementation's");
-    return accept;
-}
-
-/* One repaint of a list: sends the given number of its cycles and looks at the panel after each. */
-static void run_repaint(struct desk *d, struct rng *g, size_t picture_len, size_t output_len, size_t stop)
-{
-    uint8_t picture[1024], output[REPAINT + 200], before[FRAME], wanted[FRAME] = { 0 };
-    random_bytes(g, picture, sizeof picture);
-    random_bytes(g, output, output_len);
-    memcpy(wanted, picture, PICTURE);
-    take_frame(d, before);
-    bool done = call_repaint(d, picture, picture_len, output, output_len);
-    check_shown(d, before, wanted);
-    while (done && d->sent < stop) {
-        send_record(d, output + RECORD * d->sent);
-        check_shown(d, before, wanted);
-    }
-}
-
-static size_t draw_stop(struct rng *g)
-{
-    return one_in(g, 2) ? between(g, 250, REPAINT_RECORDS) : between(g, 0, REPAINT_RECORDS);
-}
-
-/* The list ends with a repaint that is sent whole: from wherever the list came, it must show. */
-static void run_list(struct desk *d, struct rng *g)
-{
-    draw_ready_chip(g, d->chips);
-    draw_ready_chip(g, d->chips + CHIP);
-    random_bytes(g, d->ram, RAM);
-    for (unsigned left = below(g, 6); left > 0; left--)
-        run_repaint(d, g, draw_picture_length(g), draw_output_length(g), draw_stop(g));
-    run_repaint(d, g, PICTURE, REPAINT, REPAINT_RECORDS);
-}
-
-static void run_lists(uint64_t seed, unsigned long lists)
-{
-    struct desk desk = { { 0 }, { 0 }, 0, 0, 0, 0, 0 };
-    for (desk.list = 0; desk.list < lists; desk.list++) {
-        struct rng g = rng_for(seed, 4, desk.list);
-        run_list(&desk, &g);
-    }
-    printf("compare: lists: %lu lists of %lu repaints, %lu refused, %lu cycles with their frames\n",
-           lists, desk.repaints, desk.refused, desk.cycles);
-    if (desk.refused == 0)
-        fail("list", 0, "no repaint refused, draw more lists");
-}
-
 #endif
 
 int main(int argc, char **argv)
@@ -681,7 +520,6 @@ int main(int argc, char **argv)
 #endif
 #ifdef WITH_REPAINT
     compare_repaints(seed, cases);
-    run_lists(seed, cases / 24);
 #endif
     printf("compare: %u failed\n", failures);
     return failures == 0 ? EXIT_SUCCESS : EXIT_FAILURE;

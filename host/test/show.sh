@@ -3,9 +3,9 @@
 # LISTING is the plain implementation's listing program; it tells whether the example's recorded reads are right.
 set -u
 show=$1 listing=$2 work=$3
-example=$(dirname "$0")/../../examples/name.trace
+example=$(dirname "$0")/../../examples/name.trace new_name=$(dirname "$0")/../../examples/name.pbm
 mkdir -p "$work" || exit 1
-t=$work/t.trace pbm=$work/out.pbm
+t=$work/t.trace picture=$work/in.pbm pbm=$work/out.pbm
 checks=0 failed=0
 
 check() { # LABEL COMMAND...: the command must succeed
@@ -31,6 +31,29 @@ repeated() { # N TEXT
 }
 status_reads() { # BYTES: that many bytes of valid records, the last one perhaps torn
     repeated 20000 abcb | tr abc '\004\000\140' | head -c "$1"
+}
+
+hex_rows() { # "N ROW"...: prints the row N times, then the next one, a line each
+    for rows in "$@"; do
+        n=${rows%% *}
+        while [ "$n" -gt 0 ]; do echo "${rows#* }"; n=$((n - 1)); done
+    done
+}
+digits() { # "N ROW"...: the pixels of a P1 picture, a row of 122 digits a line
+    hex_rows "$@" | awk '{
+        line = ""
+        for (i = 1; i <= 32; i++) {
+            nibble = index("0123456789abcdef", substr($0, i, 1)) - 1
+            for (bit = 8; bit >= 1; bit /= 2) line = line int(nibble / bit) % 2
+        }
+        print substr(line, 1, 122)
+    }'
+}
+packed() { # "N ROW"...: the pixels of a P4 picture
+    for row in $(hex_rows "$@"); do
+        # shellcheck disable=SC2046,SC2059
+        printf "$(printf '\\%03o' $(echo "$row" | sed 's/../ 0x&/g'))"
+    done
 }
 
 # ---- what is run and wanted ----
@@ -131,18 +154,156 @@ shown "reverse" "$t" --at 4; pixels "reverse" "1 $first" "31 $dark"
 
 # ---- the example ----
 
-# The picture that show/make_name.py draws (its second argument is a PBM to write).
+# The names as show/make_name.py draws them, before any chip has seen them.
+rule="1 007ffffffffffffffffffffffe000000"
 oliveira() { # LABEL
-    pixels "$1" "8 $dark" \
+    pixels "$1" \
         "2 001f86001f86067fe1f87f81f8000000" "4 00606600060606600060606606000000" "2 006066000606067f80607f87fe000000" \
         "2 00606600060606600060660606000000" "2 00606600060198600060618606000000" "2 001f87fe1f80607fe1f8606606000000" \
-        "3 $dark" "1 007ffffffffffffffffffffffe000000" "6 $dark"
+        "1 $dark" "$rule" "16 $dark"
 }
+monteir() { # LABEL ROWS ROWS: MONTEIR and a last letter, by the two groups of rows where an A and an O differ
+    pixels "$1" \
+        "2 006061f86067fe7fe1f87f81f8000000" "2 0079e606786060600060606606000000" "2 00666606666060600060606606000000" "$2" \
+        "2 00606606606060600060660606000000" "2 00606606606060600060618606000000" "$3" "1 $dark" "$rule" "16 $dark"
+}
+monteira() { monteir "$1" "2 0066660661e0607f80607f87fe000000" "2 006061f86060607fe1f8606606000000"; }
+monteiro() { monteir "$1" "2 0066660661e0607f80607f8606000000" "2 006061f86060607fe1f86061f8000000"; }
 shown "example" "$example"; oliveira "example"
-check "example: recorded reads" same "$("$listing" <"$example" | tail -n 1)" "end 0 984 12 0"
-shown "example, whole" "$example" --at 984; oliveira "example, whole"
+check "example: recorded reads" same "$("$listing" <"$example" | tail -n 1)" "end 0 886 12 0"
+shown "example, whole" "$example" --at 886; oliveira "example, whole"
 shown "example, set up and cleared" "$example" --at 674; pixels "example, set up and cleared" "32 $dark"
-refused "example, past its end" 1 "$example: has only 984 records, --at asks for 985" "$example" --at 985
+refused "example, past its end" 1 "$example: has only 886 records, --at asks for 887" "$example" --at 887
+for n in 0 1 63 126 127 189 251 252; do
+    shown "example, repaint at $n" "$example" --repaint "$new_name" --at $n; oliveira "example, repaint at $n"
+done
+shown "example, torn" "$example" --repaint "$new_name" --at 253; monteira "example, torn"
+shown "example, repaint at 254" "$example" --repaint "$new_name" --at 254; monteiro "example, repaint at 254"
+shown "example, whole repaint" --repaint "$new_name" "$example"; monteiro "example, whole repaint"
+
+# ---- repaints: the picture from P1 and P4, each start line and direction of each chip ----
+
+middle_left=00000000000000080000000000000000
+corners=80000000000000000000000000000040
+new_rows() { # COMMAND...: gives it the 16 rows of a picture
+    "$@" "1 $last" "2 $lit" "1 $dark" "3 $middle" "1 $right_lit" "4 $left_lit" "3 $dark" "1 $first"
+}
+old() { pixels "$1" "1 $first" "14 $dark" "1 $last" "16 $dark"; }
+torn() { pixels "$1" "1 $dark" "2 $left_lit" "1 $dark" "3 $middle_left" "1 $dark" "4 $left_lit" "3 $dark" "1 $corners" "16 $dark"; }
+new() { new_rows pixels_above_dark "$1"; }
+pixels_above_dark() { pixels "$@" "16 $dark"; }
+
+ready() { # CHIP START-LINE ADC: records that make the chip ready, ADC 0 or 1
+    records "2 $1 AF" "2 $1 A8" "2 $1 A$3" "2 $1 $2"
+}
+old_pixels() { # LEFT-START LEFT-ADC RIGHT-START RIGHT-ADC: ready chips that show the first pixel and the last one of 16 rows
+    ready 0 "$1" "$2"
+    ready 1 "$3" "$4"
+    [ "$1" = C0 ] && page=B8 || page=BA
+    [ "$2" = 0 ] && column=00 || column=4F
+    records "2 0 $page" "2 0 $column" "3 0 01"
+    [ "$3" = C0 ] && page=B9 || page=BB
+    [ "$4" = 0 ] && column=3C || column=13
+    records "2 1 $page" "2 1 $column" "3 1 80"
+}
+repainted() { # LABEL: the trace and the picture at each point where something changes
+    for at in 0 252; do
+        shown "$1 at $at" "$t" --repaint "$picture" --at $at; old "$1 at $at"
+    done
+    shown "$1 at 253" "$t" --repaint "$picture" --at 253; torn "$1 at 253"
+    shown "$1 at 254" "$t" --repaint "$picture" --at 254; new "$1 at 254"
+    shown "$1 whole" "$t" --repaint "$picture"; new "$1 whole"
+}
+
+{ printf 'P1\n122 16\n'; new_rows digits; } >"$picture"
+for chips in "C0 0 D0 1" "C0 1 C0 0" "D0 0 D0 0" "D0 1 C0 1" "D0 1 D0 0" "C0 0 C0 1"; do
+    # shellcheck disable=SC2086
+    old_pixels $chips >"$t"
+    repainted "repaint, chips $chips"
+done
+old_pixels C0 0 C0 0 >"$t"
+
+like_p1() { # LABEL: the picture is read as the same pixels
+    shown "$1" "$t" --repaint "$picture"; new "$1"
+}
+{ printf 'P4\n122 16\n'; new_rows packed; } >"$picture"; like_p1 "P4"
+{ printf 'P4 # a comment\n#another\n 122\t# a third 9\n\n16\n'; new_rows packed; } >"$picture"; like_p1 "P4 with comments"
+{ printf 'P4\n122 16#before the last white space\n\n'; new_rows packed; } >"$picture"; like_p1 "P4 with a comment last"
+{ printf 'P4\n122 16\n'; new_rows packed | LC_ALL=C tr '\000\300\100' '\000\377\177'; } >"$picture"; like_p1 "P4 with bits past the last pixel"
+{ printf 'P1 #\r# a comment\n00122#\n# 5\n016 # 1\n'; new_rows digits; } >"$picture"; like_p1 "P1 with comments"
+{ printf 'P1\r\n122 16\r\n'; new_rows digits | sed 's/./& /g'; printf '\n# 1\n \n'; } >"$picture"; like_p1 "P1 in single digits"
+{ printf 'P1 122 16 '; new_rows digits | tr -d '\n'; } >"$picture"; like_p1 "P1 in one line"
+
+# ---- pictures that are none ----
+
+bad_picture() { # WHAT: the picture is refused with these words
+    rm -f "$pbm"
+    refused "picture: $1" 1 "$picture: $1" "$t" --repaint "$picture" --at 0 --pbm "$pbm"
+    check "picture: $1: writes a PBM" [ ! -e "$pbm" ]
+}
+damage="no PBM picture, or a damaged one:"
+begins="$damage it begins with neither P1 nor P4"
+: >"$picture"; bad_picture "$begins"
+for header in P P2 P5 4 Q1 ' P1' 'p1'; do
+    { printf '%s\n122 16\n' "$header"; new_rows digits; } >"$picture"; bad_picture "$begins"
+done
+cp "$t" "$picture"; bad_picture "$begins"
+for header in 'P1' 'P4\n' 'P4\n122' 'P4\n122 \n# 16' 'P4\n122 16' 'P4\n122 16x' 'P4\n122,16\n' 'P4\n-122 16\n' 'P4122 16\n' 'P4\n122 1234567890\n' 'P4\n4294967418 16\n' 'P1\nx'; do
+    # shellcheck disable=SC2059
+    printf "$header" >"$picture"; bad_picture "$damage its header gives no width and height"
+done
+for size in "122 32" "16 122" "121 16" "122 17" "0 0" "999999999 16"; do
+    { printf 'P4\n%s\n' "$size"; new_rows packed; } >"$picture"
+    bad_picture "is ${size% *} by ${size#* }, a repaint takes 122 by 16"
+done
+for length in 0 1 255; do
+    { printf 'P4\n122 16\n'; new_rows packed | head -c $length; } >"$picture"; bad_picture "$damage it ends before its last pixel"
+done
+for length in 0 1 1966; do                      # a row is 122 digits and a line end; the last digit is byte 1966
+    { printf 'P1\n122 16\n'; new_rows digits | head -c $length; } >"$picture"; bad_picture "$damage it ends before its last pixel"
+done
+{ printf 'P4\n122 16\n'; new_rows packed; printf '\n'; } >"$picture"; bad_picture "$damage it goes on after its last pixel"
+{ printf 'P1\n122 16\n'; new_rows digits; printf '0'; } >"$picture"; bad_picture "$damage it goes on after its last pixel"
+for pixel in 2 x P -; do
+    { printf 'P1\n122 16\n'; new_rows digits | head -c 1966; printf '%s' "$pixel"; } >"$picture"; bad_picture "$damage a pixel is neither 0 nor 1"
+done
+refused "picture missing" 1 "$work/none: cannot be opened: No such file or directory" "$t" --repaint "$work/none"
+refused "picture a folder" 1 "$work: cannot be read: Is a directory" "$t" --repaint "$work"
+refused "picture endless" 1 "/dev/zero: $begins" "$t" --repaint /dev/zero
+
+# ---- refused repaints; --at counts the repaint's records ----
+
+{ printf 'P1\n122 16\n'; new_rows digits; } >"$picture"
+refused_repaint() { # NUMBER CHIP WORDS RECORD...: refused where these records come after those that make both chips ready
+    number=$1 message="$t: repaint after it refused: number $1, $2 chip: $3"
+    shift 3
+    { ready 0 C0 0; ready 1 D0 1; records "$@"; } >"$t"
+    rm -f "$pbm"
+    refused "repaint, number $number ($*)" 1 "$message" "$t" --repaint "$picture" --pbm "$pbm"
+    check "repaint, number $number: writes a PBM" [ ! -e "$pbm" ]
+    refused "repaint, number $number at 0 ($*)" 1 "$message" "$t" --repaint "$picture" --at 0
+    shown "repaint, number $number, without it" "$t"
+}
+refused_repaint 9 left "display off or static drive on" "2 0 AE"
+refused_repaint 9 right "display off or static drive on" "2 1 AE"
+refused_repaint 9 left "display off or static drive on" "2 0 A5"
+refused_repaint 9 right "display off or static drive on" "2 1 A5" "2 0 A9"
+refused_repaint 10 left "duty 1/32" "2 0 A9" "2 1 A9"
+refused_repaint 10 right "duty 1/32" "2 1 A9" "2 0 C1"
+refused_repaint 11 left "a start line neither 0 nor 16" "2 0 C1"
+refused_repaint 11 left "a start line neither 0 nor 16" "2 0 DF" "2 1 CF"
+refused_repaint 11 right "a start line neither 0 nor 16" "2 1 D1" "2 0 E0"
+refused_repaint 12 left "read-modify-write on" "2 0 05" "2 0 E0"
+refused_repaint 12 right "read-modify-write on" "2 1 E0"
+: >"$t"
+refused "repaint of fresh chips" 1 "$t: repaint after it refused: number 9, left chip: display off or static drive on" "$t" --repaint "$picture"
+old_pixels C0 0 C0 0 >"$t"
+for n in 255 16385 99999999999999999999999; do
+    refused "repaint at $n" 1 "the repaint: has only 254 records, --at asks for $n" "$t" --repaint "$picture" --at $n
+done
+refused "repaint at x" 2 'show: --at takes a number of records, 0 or more, not "x"; see show --help' "$t" --repaint "$picture" --at x
+records "2 0 80" >>"$t"
+refused "repaint after a refused trace" 1 "$t: record 14 refused: number 7, a byte that is no command" "$t" --repaint "$picture" --at 0
 
 # ---- refused traces; what follows record N does not count with --at N ----
 
@@ -211,7 +372,7 @@ refused "no trace" 2 'show: no file for "TRACE"; see show --help' --at 1
 for option in --foo -x - --at=1 --; do
     refused "$option" 2 "show: unknown option \"$option\"; see show --help" "$t" "$option"
 done
-for option in --at --pbm; do
+for option in --repaint --at --pbm; do
     refused "$option last" 2 "show: no value after \"$option\"; see show --help" "$t" $option
     refused "$option before another" 2 "show: no value after \"$option\"; see show --help" $option --at "$t"
     refused "$option twice" 2 "show: more than one \"$option\"; see show --help" "$t" $option 1 $option 1
@@ -223,7 +384,7 @@ for arguments in "--help" "$t --foo --help"; do
     run $arguments
     check "$arguments: status $status" same "$status" 0
     check "$arguments: a message" [ ! -s "$work/err" ]
-    check "$arguments: usage" same "$(head -n 1 "$work/out")" "Usage: show TRACE [--at N] [--pbm FILE]"
+    check "$arguments: usage" same "$(head -n 1 "$work/out")" "Usage: show TRACE [--repaint PICTURE] [--at N] [--pbm FILE]"
 done
 
 echo "show: $checks checks, $failed failed"

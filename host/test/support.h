@@ -1,5 +1,5 @@
 /*
- * What test.c, compare.c and bench.c share: random numbers, traces, random states, the plain
+ * What test.c, lists.c, compare.c and bench.c share: random numbers, traces, random states, the plain
  * implementation's names. Everything is static inline, so that each program takes what it needs.
  */
 #ifndef SUPPORT_H
@@ -95,6 +95,15 @@ static inline void random_bytes(struct rng *g, uint8_t *bytes, size_t len)
 {
     for (size_t i = 0; i < len; i++)
         bytes[i] = random_byte(g);
+}
+
+/* A generator for case `at` of a stream, the same however many cases are drawn. */
+static inline struct rng rng_for(uint64_t seed, uint64_t stream, uint64_t at)
+{
+    struct rng g = { seed ^ stream << 56 };
+    g.state = rng_next(&g) + at * 0xD1342543DE82EF95u;
+    rng_next(&g);
+    return g;
 }
 
 /* ---- traces ---- */
@@ -230,6 +239,40 @@ static inline void settle_reads(struct trace *t, struct rng *g, const uint8_t *c
     for (size_t i = 0; i < pedralume_place(answer); i++)
         if (answers[2 * i] != PEDRALUME_KIND_WRITE)
             t->bytes[RECORD * i + 2] = one_in(g, 2) ? answers[2 * i + 1] : random_byte(g);
+}
+
+/* ---- random repaints ---- */
+
+enum { LONGEST_PICTURE = 600, LONGEST_OUTPUT = REPAINT + 200 };
+
+/* A chip that a repaint takes; page, column, read latch and ADC are any. */
+static inline void draw_ready_chip(struct rng *g, uint8_t *chip)
+{
+    draw_chip(g, chip);
+    chip[PEDRALUME_DISPLAY] = 1;
+    chip[PEDRALUME_STATIC] = chip[PEDRALUME_DUTY] = chip[PEDRALUME_RMW] = chip[PEDRALUME_SAVED_COLUMN] = 0;
+    chip[PEDRALUME_START_LINE] = one_in(g, 2) ? 0 : 16;
+}
+
+/* Any length from 0 to most but the right one, often next to it. */
+static inline size_t wrong_length(struct rng *g, unsigned right, unsigned most)
+{
+    unsigned len = one_in(g, 3) ? right + 1 : one_in(g, 2) ? right - 1 : below(g, most + 1);
+    return len == right ? 0 : len;
+}
+
+/* Mostly exact or longer, sometimes too short. */
+static inline size_t draw_output_length(struct rng *g)
+{
+    if (one_in(g, 20))
+        return one_in(g, 2) ? REPAINT - 1 : below(g, REPAINT);
+    return one_in(g, 2) ? REPAINT : between(g, REPAINT, LONGEST_OUTPUT);
+}
+
+/* Mostly exact, sometimes too short or too long. */
+static inline size_t draw_picture_length(struct rng *g)
+{
+    return one_in(g, 20) ? wrong_length(g, PICTURE, LONGEST_PICTURE) : PICTURE;
 }
 
 #endif

@@ -801,11 +801,6 @@ static void ready_easel(struct easel *e)
     random_bytes(&g, e->picture, PICTURE);
 }
 
-static uint64_t repaint(struct easel *e)
-{
-    return pedralume_repaint(e->chips, CHIPS, e->picture, PICTURE, e->output, sizeof e->output);
-}
-
 /* The 254 records as document 01 lists them. */
 static void expect_repaint(struct trace *t, const struct easel *e)
 {
@@ -836,26 +831,55 @@ static void check_repaint_shows(const struct easel *e)
     CHECK(memcmp(frame, wanted, FRAME) == 0);
 }
 
-static void test_repaints(void)
+/* Done with this output length: the 254 records are written, and nothing else of what is lent. */
+static void test_repaint_done(const struct easel *given, size_t output)
 {
     static struct trace t;
-    static struct easel e, before;
-    for (unsigned way = 0; way < 32; way++) {
-        ready_easel(&e);
+    struct easel e = *given, want = *given;
+    CHECK_ANSWER(pedralume_repaint(e.chips, CHIPS, e.picture, PICTURE, e.output, output), 0, 254, 0, 0);
+    expect_repaint(&t, given);
+    CHECK(t.len == REPAINT);
+    memcpy(want.output, t.bytes, REPAINT);
+    CHECK(memcmp(&e, &want, sizeof e) == 0);
+    check_repaint_shows(&e);
+}
+
+/* Way 0 to 15: each start line and direction of each chip. */
+static void ready_easel_by(struct easel *e, unsigned way)
+{
+    ready_easel(e);
+    for (unsigned chip = 0; chip < 2; chip++) {
+        uint8_t *c = e->chips + CHIP * chip;
+        c[PEDRALUME_ADC] = way >> chip & 1;
+        c[PEDRALUME_START_LINE] = (way >> (2 + chip) & 1) ? 16 : 0;
+    }
+}
+
+static void test_repaints(void)
+{
+    static const size_t output[] = { REPAINT, REPAINT + 1, REPAINT + 3, REPAINT + 4, REPAINT + SLACK };
+    static struct easel e;
+    for (unsigned way = 0; way < 16; way++)
+        for (unsigned i = 0; i < 5; i++) {
+            ready_easel_by(&e, way);
+            test_repaint_done(&e, output[i]);
+        }
+}
+
+/* Page, column and read latch play no part. */
+static void test_repaint_idle_fields(void)
+{
+    static struct easel e;
+    for (unsigned column = 0; column < 128; column++) {
+        ready_easel_by(&e, column % 16);
         for (unsigned chip = 0; chip < 2; chip++) {
             uint8_t *c = e.chips + CHIP * chip;
-            c[PEDRALUME_ADC] = way >> chip & 1;
-            c[PEDRALUME_START_LINE] = (way >> (2 + chip) & 1) ? 16 : 0;
-            if (way >> 4)                                           /* fields that play no part */
-                memcpy(c + PEDRALUME_COLUMN, (const uint8_t[]){ 99, 0, 1, 0x33 }, 4);
+            c[PEDRALUME_PAGE] = (uint8_t)((column / 16 + chip) % 4);
+            c[PEDRALUME_COLUMN] = (uint8_t)(chip == 0 ? column : 127 - column);
+            c[PEDRALUME_LATCH_MARK] = (column + chip) % 2;
+            c[PEDRALUME_LATCH_BYTE] = (uint8_t)(column * 2 + 1 - chip);
         }
-        before = e;
-        CHECK_ANSWER(repaint(&e), 0, 254, 0, 0);
-        expect_repaint(&t, &e);
-        CHECK(t.len == REPAINT);
-        memcpy(before.output, t.bytes, REPAINT);
-        CHECK(memcmp(&e, &before, sizeof e) == 0);
-        check_repaint_shows(&e);
+        test_repaint_done(&e, REPAINT);
     }
 }
 
@@ -876,43 +900,87 @@ static void test_repaint_stays(const struct easel *given, size_t chips, size_t p
     CHECK(memcmp(&e, given, sizeof e) == 0);
 }
 
+/* Refused for its chips: with one size wrong as well, number 1 comes first. */
+static void test_unready(const struct easel *given, unsigned number, unsigned place)
+{
+    test_repaint_stays(given, CHIPS, PICTURE, REPAINT, number, place);
+    test_repaint_stays(given, CHIPS, PICTURE, sizeof given->output, number, place);
+    test_repaint_stays(given, CHIPS, PICTURE, REPAINT - 1, 1, 0);
+    test_repaint_stays(given, CHIPS, PICTURE - 1, REPAINT, 1, 0);
+    test_repaint_stays(given, CHIPS - 1, PICTURE, REPAINT, 1, 0);
+}
+
+/* Number 2 for each field of each chip. */
+static void test_repaint_bad_fields(void)
+{
+    static struct easel e;
+    for (unsigned chip = 0; chip < 2; chip++)
+        for (unsigned field = 0; field < CHIP; field++) {
+            if (field == PEDRALUME_LATCH_BYTE)
+                continue;
+            ready_easel(&e);
+            e.chips[CHIP * chip + field] = (uint8_t)(field_limit[field] + 1u);
+            test_unready(&e, 2, chip);
+            e.chips[CHIP * chip + field] = 255;
+            test_unready(&e, 2, chip);
+        }
+}
+
 struct unready {
     uint8_t field, value, number;
 };
 
 /* In the order of their numbers. */
 static const struct unready unready[] = {
-    { PEDRALUME_PAGE, 4, 2 },        { PEDRALUME_SAVED_COLUMN, 1, 2 }, { PEDRALUME_ZERO, 1, 2 },
+    { PEDRALUME_PAGE, 4, 2 },        { PEDRALUME_SAVED_COLUMN, 128, 2 }, { PEDRALUME_ZERO, 1, 2 },
     { PEDRALUME_DISPLAY, 0, 9 },     { PEDRALUME_STATIC, 1, 9 },
     { PEDRALUME_DUTY, 1, 10 },
     { PEDRALUME_START_LINE, 1, 11 }, { PEDRALUME_START_LINE, 31, 11 },
     { PEDRALUME_RMW, 1, 12 },
 };
 
-static void test_unready(const struct easel *given, unsigned number, unsigned place)
+enum { UNREADY = sizeof unready / sizeof unready[0] };
+
+static void spoil(struct easel *e, unsigned chip, const struct unready *cause)
 {
-    test_repaint_stays(given, CHIPS, PICTURE, REPAINT, number, place);
-    test_repaint_stays(given, CHIPS, PICTURE, REPAINT - 1, 1, 0);
+    e->chips[CHIP * chip + cause->field] = cause->value;
 }
 
-/* Each cause on each chip alone, and each pair of causes, one on each chip. */
+/* Each cause on each chip alone, and each pair of causes, on the two chips and on the same one. */
 static void test_unready_chips(void)
 {
-    static struct easel e;
-    const size_t count = sizeof unready / sizeof unready[0];
-    for (size_t i = 0; i < count; i++)
+    static struct easel e, both;
+    for (unsigned i = 0; i < UNREADY; i++)
         for (unsigned chip = 0; chip < 2; chip++) {
             ready_easel(&e);
-            e.chips[CHIP * chip + unready[i].field] = unready[i].value;
+            spoil(&e, chip, &unready[i]);
             test_unready(&e, unready[i].number, chip);
-            for (size_t j = 0; j < count; j++) {
-                struct easel both = e;
-                both.chips[CHIP * (1 - chip) + unready[j].field] = unready[j].value;
+            for (unsigned j = 0; j < UNREADY; j++) {
                 unsigned here = unready[i].number, there = unready[j].number;
                 bool this_one = here < there || (here == there && chip == 0);
+                both = e;
+                spoil(&both, 1 - chip, &unready[j]);
                 test_unready(&both, this_one ? here : there, this_one ? chip : 1 - chip);
+                if (unready[i].field == unready[j].field)
+                    continue;
+                both = e;
+                spoil(&both, chip, &unready[j]);
+                test_unready(&both, here < there ? here : there, chip);
             }
         }
+}
+
+/* A saved column is number 2 with the mode off and number 12 with it on. */
+static void test_repaint_saved_column(void)
+{
+    static struct easel e;
+    for (unsigned chip = 0; chip < 2; chip++) {
+        ready_easel(&e);
+        e.chips[CHIP * chip + PEDRALUME_SAVED_COLUMN] = 1;
+        test_unready(&e, 2, chip);
+        e.chips[CHIP * chip + PEDRALUME_RMW] = 1;
+        test_unready(&e, 12, chip);
+    }
 }
 
 static void test_repaint_start_lines(void)
@@ -922,22 +990,24 @@ static void test_repaint_start_lines(void)
         for (unsigned chip = 0; chip < 2; chip++) {
             ready_easel(&e);
             e.chips[CHIP * chip + PEDRALUME_START_LINE] = (uint8_t)line;
-            if (line % 16 != 0)
-                test_unready(&e, 11, chip);
+            if (line == 0 || line == 16)
+                test_repaint_done(&e, REPAINT);
             else
-                CHECK_ANSWER(repaint(&e), 0, 254, 0, 0);
+                test_unready(&e, 11, chip);
         }
 }
 
 static void test_repaint_lengths(void)
 {
-    static const size_t chips[] = { 0, 12, 23, 25 }, picture[] = { 0, 122, 243, 245 }, output[] = { 0, 4, 1012, 1015 };
+    static const size_t chips[] = { 0, 12, 23, 25, 36 }, picture[] = { 0, 122, 243, 245, 260 };
+    static const size_t output[] = { 0, 4, 254, 1012, 1015 };
     static struct easel e;
     ready_easel(&e);
-    for (unsigned i = 0; i < 4; i++) {
+    for (unsigned i = 0; i < 5; i++) {
         test_repaint_stays(&e, chips[i], PICTURE, REPAINT, 1, 0);
         test_repaint_stays(&e, CHIPS, picture[i], REPAINT, 1, 0);
         test_repaint_stays(&e, CHIPS, PICTURE, output[i], 1, 0);
+        test_repaint_stays(&e, chips[i], picture[i], output[i], 1, 0);
     }
 }
 
@@ -969,10 +1039,13 @@ int main(void)
 #endif
 #ifdef WITH_REPAINT
     test_repaints();
+    test_repaint_idle_fields();
     test_repaint_example();
+    test_repaint_lengths();
+    test_repaint_bad_fields();
+    test_repaint_saved_column();
     test_unready_chips();
     test_repaint_start_lines();
-    test_repaint_lengths();
 #endif
     printf("test: %u checks, %u failed\n", checks, failures);
     return failures == 0 ? EXIT_SUCCESS : EXIT_FAILURE;

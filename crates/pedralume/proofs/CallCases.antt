@@ -2,12 +2,12 @@
 use Prim.Native.Nat.{ℕ, _-_, _/_, _%_, _<_, _≤_}
 use native.Mathlib.Omega.{arith}
 use mathlib.Core.Path.{_≡_, refl, sym, ap, _∙_}
-use mathlib.Core.Bool.{Bool, true, false, not, _&&_, true≢false}
+use mathlib.Core.Bool.{Bool, true, false, not, true≢false}
 use mathlib.Core.List.{List, _++_}
-use lib.Dec.{ltb, eqb}
+use lib.Dec.{eqb}
 use lib.ListN.{length, take, drop, length-drop, take-append-drop}
 use lib.Seq.{length-take-le}
-use borrow.Author.Tests.{lt-ltb, le-ltb, eq-eqb, ne-eqb}
+use borrow.Author.Tests.{eq-eqb}
 use Rattle.sed1520.specs.Choice.{if}
 use Rattle.sed1520.specs.Chip.{inRange}
 use Rattle.sed1520.proofs.Tests.{both, when}
@@ -19,6 +19,7 @@ use Rattle.trace.proofs.ReplayCases.{length-refused}
 use Rattle.sed1520.proofs.Parts.{rest}
 use Rattle.pedralume.specs.ChipRecord.{chipBytes, chipIn, marksRight, recordRight, wrongChip}
 use Rattle.pedralume.specs.Call.{packed, ReplayCall, refusedCall, panelIn, replayed, callOf, replayCall}
+use Rattle.pedralume.proofs.Checked.{passed, on-chips}
 use Rattle.pedralume.proofs.RecordsUndo.{back}
 use Rattle.trace.specs.Replay as replay
 
@@ -43,49 +44,29 @@ both-pass true false h = absurd (omega arith)
 both-pass false r h = absurd (omega arith)
 
 module _ (chips ram trace answers : List ℕ) where
-  pub chips-refused : (length chips ≡ 24 → ⊥) → replayCall chips ram trace answers ≡ refusedCall 1 0 chips ram answers
-  unfolding replayCall
-  chips-refused h = rw (ne-eqb (length chips) 24 h)
+  module _ (both-records : length chips ≡ 24) (sizes : sizesWrong (length trace) (length ram) (length answers) ≡ false) (right : 2 ≤ wrongChip chips) where
+    marks-of : (recordRight (take 12 chips) ≡ true) × (recordRight (drop 12 chips) ≡ true)
+    unfolding wrongChip
+    marks-of = both-pass (recordRight (take 12 chips)) (recordRight (drop 12 chips)) right
 
-  module _ (both-records : length chips ≡ 24) where
-    pub sizes-refused : sizesWrong (length trace) (length ram) (length answers) ≡ true → replayCall chips ram trace answers ≡ refusedCall 1 0 chips ram answers
-    unfolding replayCall
-    sizes-refused s = rw (eq-eqb (length chips) 24 both-records, s)
+    -- a trace that is torn is refused before its first record, so the records are written as they were read
+    torn : (length trace % 4 ≡ 0 → ⊥) → replayed (replayOf (panelIn chips ram) trace answers) ≡ refusedCall chips ram answers 3 (length trace / 4)
+    torn h =
+        let left = both (marksRight (take 12 chips)) (inRange (chipIn (take 12 chips))) (marks-of .0) in
+        let rear = both (marksRight (drop 12 chips)) (inRange (chipIn (drop 12 chips))) (marks-of .1) in
+        rw (length-refused (panelIn chips ram) trace answers sizes (left .1) (rear .1) h, back (take 12 chips) (length-take-le 12 chips (omega arith)) (left .0), back (drop 12 chips) (simp length-drop (omega arith)) (rear .0), take-append-drop 12 chips)
 
-    module _ (sizes : sizesWrong (length trace) (length ram) (length answers) ≡ false) where
-      pub chip-refused : wrongChip chips < 2 → replayCall chips ram trace answers ≡ refusedCall 2 (wrongChip chips) chips ram answers
-      unfolding replayCall
-      chip-refused h = rw (eq-eqb (length chips) 24 both-records, sizes, lt-ltb (wrongChip chips) 2 h)
-
-      module _ (right : 2 ≤ wrongChip chips) where
-        marks-of : (recordRight (take 12 chips) ≡ true) × (recordRight (drop 12 chips) ≡ true)
-        unfolding wrongChip
-        marks-of = both-pass (recordRight (take 12 chips)) (recordRight (drop 12 chips)) right
-
-        -- a trace that is torn is refused before its first record, so the records are written as they were read
-        torn : (length trace % 4 ≡ 0 → ⊥) → replayed (replayOf (panelIn chips ram) trace answers) ≡ refusedCall 3 (length trace / 4) chips ram answers
-        torn h =
-            let left = both (marksRight (take 12 chips)) (inRange (chipIn (take 12 chips))) (marks-of .0) in
-            let rear = both (marksRight (drop 12 chips)) (inRange (chipIn (drop 12 chips))) (marks-of .1) in
-            rw (length-refused (panelIn chips ram) trace answers sizes (left .1) (rear .1) h, back (take 12 chips) (length-take-le 12 chips (omega arith)) (left .0), back (drop 12 chips) (simp length-drop (omega arith)) (rear .0), take-append-drop 12 chips)
-
-        past : replayCall chips ram trace answers ≡ if (not (eqb (length trace % 4) 0)) (refusedCall 3 (length trace / 4) chips ram answers) (replayed (replayOf (panelIn chips ram) trace answers))
-        unfolding replayCall
-        past = rw (eq-eqb (length chips) 24 both-records, sizes, le-ltb (wrongChip chips) 2 right)
-
-        pub records-replayed : replayCall chips ram trace answers ≡ replayed (replayOf (panelIn chips ram) trace answers)
-        records-replayed =
-            past
-            ∙ when (λ (call : ReplayCall). call ≡ replayed (replayOf (panelIn chips ram) trace answers)) (not (eqb (length trace % 4) 0))
-            (λ t. sym (torn (λ e. true≢false (sym t ∙ ap not (eq-eqb (length trace % 4) 0 e)))))
-            (λ _. refl)
+    pub records-replayed : replayCall chips ram trace answers ≡ replayed (replayOf (panelIn chips ram) trace answers)
+    records-replayed =
+        passed _ chips (refusedCall chips ram answers) _ both-records sizes right
+        ∙ when (λ (call : ReplayCall). call ≡ replayed (replayOf (panelIn chips ram) trace answers)) (not (eqb (length trace % 4) 0))
+        (λ t. sym (torn (λ e. true≢false (sym t ∙ ap not (eq-eqb (length trace % 4) 0 e)))))
+        (λ _. refl)
 
   -- the replay of the chips that were read
   module _ (left right : Chip) (done : Replayed) (ram′ answers′ : List ℕ) (is-left : left ≡ chipIn (take 12 chips)) (is-right : right ≡ chipIn (take (length chips - 12) (drop 12 chips))) (ends : replay.outcome done ram′ answers′ ≡ replayOf (panelOf left right ram) trace answers) where
     same-replay : replay.outcome done ram′ answers′ ≡ replayOf (panelIn chips ram) trace answers
-    same-replay =
-        let right′ = is-right ∙ ap chipIn (rest chips 12) in
-        ends ∙ rw (is-left, right′)
+    same-replay = on-chips (λ l r. replayOf (panelOf l r ram) trace answers) chips left right is-left is-right ends
 
     pub written-back : (n : ℕ) (chips′ : List ℕ) → n ≡ packed (done .number) (done .place) (done .compared) (done .differing) → chips′ ≡ chipBytes (done .left) ++ chipBytes (done .right) → callOf n chips′ ram′ answers′ ≡ replayed (replayOf (panelIn chips ram) trace answers)
     written-back n chips′ en ec = rw (en, ec) (ap replayed same-replay)

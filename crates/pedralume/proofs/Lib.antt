@@ -1,5 +1,6 @@
+pub mod Checked
 pub mod CallCases
 pub mod Marks
 pub mod RecordsUndo
 pub mod TwoRecords
-pub mod FrameCallCases
+pub mod AnswersUnpack

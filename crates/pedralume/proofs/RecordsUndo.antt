@@ -2,18 +2,18 @@
 use Prim.Native.Nat.{ℕ, zero, suc, _+_, _<_}
 use native.Mathlib.Omega.{arith}
 use mathlib.Core.Path.{_≡_, refl, sym, ap, _∙_}
-use mathlib.Core.Bool.{Bool, true, false, _&&_}
+use mathlib.Core.Bool.{Bool, true, false}
 use mathlib.Core.List.{List, [], _∷_}
-use lib.Dec.{ltb, eqb}
+use lib.Dec.{ltb}
 use lib.ListN.{length, getD, drop, drop-of-length-le}
 use lib.Seq.{drop-cons}
 use borrow.Author.Tests.{ltb-true, eqb-true}
-use Rattle.sed1520.specs.Chip.{inRange, latched}
+use Rattle.sed1520.specs.Chip.{fresh, latched}
 use Rattle.sed1520.specs.declared.registers.Chip.{Chip}
 use Rattle.sed1520.specs.declared.registers.ReadLatch.{ReadLatch}
 use Rattle.sed1520.specs.declared.registers.ReadLatch.the-variants.{Fresh, Stale}
 use Rattle.sed1520.proofs.Tests.{both}
-use Rattle.pedralume.specs.ChipRecord.{bit, flag, mark, latchOf, chipBytes, chipIn, marksRight, recordRight}
+use Rattle.pedralume.specs.ChipRecord.{bit, flag, mark, latchOf, chipBytes, chipIn, marksRight}
 use Rattle.pedralume.specs.Promises.{RecordsUndo}
 
 flag-bit : (b : Bool) → flag (bit b) ≡ b
@@ -80,9 +80,11 @@ unfolding marksRight chipBytes
 marked c = rw (small (c .«display_on»), small (c .«static_on»), small (c .«duty_32»), small (c .reverse), small (c .modify), small-mark (c .latch))
 
 pub records-undo : RecordsUndo
+unfolding chipBytes fresh
 records-undo =
     record {
       there = there;
       back = back;
       passes = λ c e. rw (marked c, there c) e;
+      fresh-record = refl;
     }

@@ -1,15 +1,12 @@
 -- Two chip records: written one after the other, and read back.
-use Prim.Native.Nat.{ℕ, _-_, _<_}
+use Prim.Native.Nat.{ℕ, _-_}
 use native.Mathlib.Omega.{arith}
-use mathlib.Core.Path.{_≡_, refl, sym, ap, _∙_}
-use mathlib.Core.Bool.{Bool, true, false, _&&_}
-use mathlib.Core.List.{List, [], _∷_, _++_, append-nil}
-use mathlib.Core.Logic.{⊎-elim}
-use lib.Dec.{ltb, eqb}
-use lib.ListN.{length, getD, take, drop, length-append, length-take, length-drop, drop-of-length-le}
-use lib.Seq.{take-at, drop-at, length-take-le, ext-getD}
+use mathlib.Core.Path.{_≡_, refl, _∙_}
+use mathlib.Core.List.{List, [], _++_, append-nil}
+use lib.ListN.{length, take, drop, length-append, length-drop, drop-of-length-le}
+use lib.Seq.{take-at, drop-at, length-take-le}
 use Rattle.sed1520.specs.declared.registers.Chip.{Chip}
-use Rattle.pedralume.specs.ChipRecord.{chipBytes, chipIn}
+use Rattle.pedralume.specs.ChipRecord.{chipBytes}
 
 -- nothing stands past the end of a part
 past : (n : ℕ) (l : List ℕ) → length l ≡ n → drop n l ≡ []

@@ -6,8 +6,9 @@ ghost use Prim.Native.Nat.{_≤_};
 ghost use mathlib.Core.Path.{_≡_};
 ghost use lib.ListN.{length, take, drop};
 ghost use Rattle.frame.specs.Frame.{framed};
+ghost use Rattle.repaint.specs.Repaint.{repaintOf};
 ghost use Rattle.trace.specs.Replay.{replayOf};
-ghost use Rattle.pedralume.specs.Call.{panelIn, replayed, replayCall, callOf, frameCallOf, framedCall, frameCall};
+ghost use Rattle.pedralume.specs.Call.{panelIn, replayed, replayCall, callOf, bufferCallOf, framedCall, frameCall, repaintedCall, repaintCall};
 ghost use Rattle.pedralume.specs.ChipRecord.{chipIn};
 use crate::chip_record::chip_in;
 use crate::chip_record::chips_out;
@@ -57,7 +58,7 @@ pub extern "C" fn pedralume_replay(
 // The frame of the chips of two records.
 fn frame_records(chips: &[u8], ram: &[u8], frame: &mut [u8]) -> u64
     requires { ⌜ length (now chips) ≡ 24 ⌝ }
-    ensures { λ r. ⌜ frameCallOf r (now (frame .exit)) ≡ framedCall (framed (chipIn (take 12 (now (chips .entry)))) (chipIn (drop 12 (now (chips .entry)))) (now (ram .entry)) (now (frame .entry))) ⌝ }
+    ensures { λ r. ⌜ bufferCallOf r (now (frame .exit)) ≡ framedCall (framed (chipIn (take 12 (now (chips .entry)))) (chipIn (drop 12 (now (chips .entry)))) (now (ram .entry)) (now (frame .entry))) ⌝ }
 {
     let left = chip_in(&chips[..12]);
     let right = chip_in(&chips[12..]);
@@ -68,7 +69,7 @@ fn frame_records(chips: &[u8], ram: &[u8], frame: &mut [u8]) -> u64
 // The frame that two chip records and the image show, into a frame buffer.
 #[no_mangle]
 pub extern "C" fn pedralume_frame(chips: &[u8], ram: &[u8], frame: &mut [u8]) -> u64
-    ensures { λ r. ⌜ frameCallOf r (now (frame .exit)) ≡ frameCall (now (chips .entry)) (now (ram .entry)) (now (frame .entry)) ⌝ }
+    ensures { λ r. ⌜ bufferCallOf r (now (frame .exit)) ≡ frameCall (now (chips .entry)) (now (ram .entry)) (now (frame .entry)) ⌝ }
 {
     if chips.len() != CHIPS_BYTES {
         return pack(1, 0, 0, 0);
@@ -81,4 +82,33 @@ pub extern "C" fn pedralume_frame(chips: &[u8], ram: &[u8], frame: &mut [u8]) ->
         return pack(2, chip, 0, 0);
     }
     frame_records(chips, ram, frame)
+}
+
+// The repaint on the chips of two records.
+fn repaint_records(chips: &[u8], picture: &[u8], output: &mut [u8]) -> u64
+    requires { ⌜ length (now chips) ≡ 24 ⌝ }
+    ensures { λ r. ⌜ bufferCallOf r (now (output .exit)) ≡ repaintedCall (repaintOf (chipIn (take 12 (now (chips .entry)))) (chipIn (drop 12 (now (chips .entry)))) (now (picture .entry)) (now (output .entry))) ⌝ }
+{
+    let left = chip_in(&chips[..12]);
+    let right = chip_in(&chips[12..]);
+    let painted = repaint::repaint(left, right, picture, output);
+    pack(painted.number, painted.place, 0, 0)
+}
+
+// The records that bring a picture to the panel of two chip records, into an output buffer.
+#[no_mangle]
+pub extern "C" fn pedralume_repaint(chips: &[u8], picture: &[u8], output: &mut [u8]) -> u64
+    ensures { λ r. ⌜ bufferCallOf r (now (output .exit)) ≡ repaintCall (now (chips .entry)) (now (picture .entry)) (now (output .entry)) ⌝ }
+{
+    if chips.len() != CHIPS_BYTES {
+        return pack(1, 0, 0, 0);
+    }
+    if repaint::sizes_wrong(picture.len(), output.len()) {
+        return pack(1, 0, 0, 0);
+    }
+    let refused = wrong_chip(chips);
+    if refused < 2 {
+        return pack(2, refused, 0, 0);
+    }
+    repaint_records(chips, picture, output)
 }

@@ -1,17 +1,17 @@
 -- `pedralume::replay_records` meets its contract, by what it calls.
 use native.Mathlib.Omega.{arith}
 use mathlib.Core.Path.{sym}
-use lib.Seq.{length-take-le}
 use borrow.Author.Needs.{needs}
 use Rattle.pedralume.proofs.CallCases.{written-back, packable}
+use Rattle.pedralume.proofs.Checked.{first-record}
 use Rattle.pedralume.proofs.replay_records.Statement.{statement}
 use Rattle.pedralume.proofs.replay_records.Tie as tie
 
 slice-aggregate-chip-in : tie.Need-slice-aggregate-chip-in
-slice-aggregate-chip-in c = sym (length-take-le 12 (c .before .before .before .before .before .args .chips .now) (omega (arith, c .before .before .before .before .before .pre)))
+slice-aggregate-chip-in c = sym (first-record (c .before .before .before .before .before .args .chips .now) (c .before .before .before .before .before .pre))
 
 chip-in-requires : tie.Need-chip-in-requires
-chip-in-requires c κs = rw (length-take-le 12 (c .before .before .before .before .before .args .chips .now) (omega (arith, c .before .before .before .before .before .pre))) (omega arith)
+chip-in-requires c κs = omega (arith, first-record (c .before .before .before .before .before .args .chips .now) (c .before .before .before .before .before .pre))
 
 pack-requires : tie.Need-pack-requires
 pack-requires c κs =
