@@ -1,11 +1,9 @@
 -- The 64-bit number of a call can be taken apart.
 use Prim.Native.Nat.{ℕ, _<_}
 use native.Mathlib.Omega.{arith}
-use mathlib.Core.Path.{_≡_}
 use Rattle.trace.proofs.Bounds.{replay-bounded}
 use Rattle.frame.proofs.FrameCases.{places-small}
 use Rattle.repaint.proofs.RepaintCases as repaint
-use Rattle.pedralume.specs.Call.{packed}
 use Rattle.pedralume.specs.Promises.{Unpacks, AnswersUnpack}
 
 unpacks : (n at compared differing : ℕ) → n < 256 → at < 65536 → compared < 65536 → Unpacks n at compared differing

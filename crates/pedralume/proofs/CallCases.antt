@@ -19,7 +19,7 @@ use Rattle.trace.proofs.ReplayCases.{length-refused}
 use Rattle.sed1520.proofs.Parts.{rest}
 use Rattle.pedralume.specs.ChipRecord.{chipBytes, chipIn, marksRight, recordRight, wrongChip}
 use Rattle.pedralume.specs.Call.{packed, ReplayCall, refusedCall, panelIn, replayed, callOf, replayCall}
-use Rattle.pedralume.proofs.Checked.{passed, on-chips}
+use Rattle.pedralume.proofs.Checked.{Passed, passed, on-chips}
 use Rattle.pedralume.proofs.RecordsUndo.{back}
 use Rattle.trace.specs.Replay as replay
 
@@ -44,21 +44,21 @@ both-pass true false h = absurd (omega arith)
 both-pass false r h = absurd (omega arith)
 
 module _ (chips ram trace answers : List ℕ) where
-  module _ (both-records : length chips ≡ 24) (sizes : sizesWrong (length trace) (length ram) (length answers) ≡ false) (right : 2 ≤ wrongChip chips) where
+  module _ (pass : Passed (sizesWrong (length trace) (length ram) (length answers)) chips) where
     marks-of : (recordRight (take 12 chips) ≡ true) × (recordRight (drop 12 chips) ≡ true)
     unfolding wrongChip
-    marks-of = both-pass (recordRight (take 12 chips)) (recordRight (drop 12 chips)) right
+    marks-of = both-pass (recordRight (take 12 chips)) (recordRight (drop 12 chips)) (pass .right)
 
     -- a trace that is torn is refused before its first record, so the records are written as they were read
     torn : (length trace % 4 ≡ 0 → ⊥) → replayed (replayOf (panelIn chips ram) trace answers) ≡ refusedCall chips ram answers 3 (length trace / 4)
     torn h =
         let left = both (marksRight (take 12 chips)) (inRange (chipIn (take 12 chips))) (marks-of .0) in
         let rear = both (marksRight (drop 12 chips)) (inRange (chipIn (drop 12 chips))) (marks-of .1) in
-        rw (length-refused (panelIn chips ram) trace answers sizes (left .1) (rear .1) h, back (take 12 chips) (length-take-le 12 chips (omega arith)) (left .0), back (drop 12 chips) (simp length-drop (omega arith)) (rear .0), take-append-drop 12 chips)
+        rw (length-refused (panelIn chips ram) trace answers (pass .sizes) (left .1) (rear .1) h, back (take 12 chips) (length-take-le 12 chips (omega (arith, pass .both-records))) (left .0), back (drop 12 chips) (simp length-drop (omega (arith, pass .both-records))) (rear .0), take-append-drop 12 chips)
 
     pub records-replayed : replayCall chips ram trace answers ≡ replayed (replayOf (panelIn chips ram) trace answers)
     records-replayed =
-        passed _ chips (refusedCall chips ram answers) _ both-records sizes right
+        passed _ chips (refusedCall chips ram answers) _ pass
         ∙ when (λ (call : ReplayCall). call ≡ replayed (replayOf (panelIn chips ram) trace answers)) (not (eqb (length trace % 4) 0))
         (λ t. sym (torn (λ e. true≢false (sym t ∙ ap not (eq-eqb (length trace % 4) 0 e)))))
         (λ _. refl)

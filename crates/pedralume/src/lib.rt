@@ -8,7 +8,7 @@ ghost use lib.ListN.{length, take, drop};
 ghost use Rattle.frame.specs.Frame.{framed};
 ghost use Rattle.repaint.specs.Repaint.{repaintOf};
 ghost use Rattle.trace.specs.Replay.{replayOf};
-ghost use Rattle.pedralume.specs.Call.{panelIn, replayed, replayCall, callOf, bufferCallOf, framedCall, frameCall, repaintedCall, repaintCall};
+ghost use Rattle.pedralume.specs.Call.{packed, checked, panelIn, replayed, replayCall, callOf, bufferCallOf, framedCall, frameCall, repaintedCall, repaintCall};
 ghost use Rattle.pedralume.specs.ChipRecord.{chipIn};
 use crate::chip_record::chip_in;
 use crate::chip_record::chips_out;
@@ -17,6 +17,23 @@ use crate::packing::pack;
 
 // The chip records of both chips.
 const CHIPS_BYTES: usize = 24;
+
+// Numbers 1 and 2 of a call whose sizes are wrong or not, packed; 0 where neither holds.
+fn refusal(chips: &[u8], wrong: bool) -> u64
+    ensures { λ r. ⌜ r ≡ checked wrong (now (chips .entry)) (λ n at. packed n at 0 0) 0 ⌝ }
+{
+    if chips.len() != CHIPS_BYTES {
+        return pack(1, 0, 0, 0);
+    }
+    if wrong {
+        return pack(1, 0, 0, 0);
+    }
+    let chip = wrong_chip(chips);
+    if chip < 2 {
+        return pack(2, chip, 0, 0);
+    }
+    0
+}
 
 // The replay on the chips of two records, which are rewritten afterwards.
 fn replay_records(chips: &mut [u8], ram: &mut [u8], trace: &[u8], answers: &mut [u8]) -> u64
@@ -42,15 +59,12 @@ pub extern "C" fn pedralume_replay(
 ) -> u64
     ensures { λ r. ⌜ callOf r (now (chips .exit)) (now (ram .exit)) (now (answers .exit)) ≡ replayCall (now (chips .entry)) (now (ram .entry)) (now (trace .entry)) (now (answers .entry)) ⌝ }
 {
-    if chips.len() != CHIPS_BYTES {
-        return pack(1, 0, 0, 0);
-    }
-    if trace::sizes_wrong(trace.len(), ram.len(), answers.len()) {
-        return pack(1, 0, 0, 0);
-    }
-    let wrong = wrong_chip(chips);
-    if wrong < 2 {
-        return pack(2, wrong, 0, 0);
+    let refused = refusal(
+        chips,
+        trace::sizes_wrong(trace.len(), ram.len(), answers.len()),
+    );
+    if refused != 0 {
+        return refused;
     }
     replay_records(chips, ram, trace, answers)
 }
@@ -71,15 +85,9 @@ fn frame_records(chips: &[u8], ram: &[u8], frame: &mut [u8]) -> u64
 pub extern "C" fn pedralume_frame(chips: &[u8], ram: &[u8], frame: &mut [u8]) -> u64
     ensures { λ r. ⌜ bufferCallOf r (now (frame .exit)) ≡ frameCall (now (chips .entry)) (now (ram .entry)) (now (frame .entry)) ⌝ }
 {
-    if chips.len() != CHIPS_BYTES {
-        return pack(1, 0, 0, 0);
-    }
-    if frame::sizes_wrong(ram.len(), frame.len()) {
-        return pack(1, 0, 0, 0);
-    }
-    let chip = wrong_chip(chips);
-    if chip < 2 {
-        return pack(2, chip, 0, 0);
+    let refused = refusal(chips, frame::sizes_wrong(ram.len(), frame.len()));
+    if refused != 0 {
+        return refused;
     }
     frame_records(chips, ram, frame)
 }
@@ -100,15 +108,9 @@ fn repaint_records(chips: &[u8], picture: &[u8], output: &mut [u8]) -> u64
 pub extern "C" fn pedralume_repaint(chips: &[u8], picture: &[u8], output: &mut [u8]) -> u64
     ensures { λ r. ⌜ bufferCallOf r (now (output .exit)) ≡ repaintCall (now (chips .entry)) (now (picture .entry)) (now (output .entry)) ⌝ }
 {
-    if chips.len() != CHIPS_BYTES {
-        return pack(1, 0, 0, 0);
-    }
-    if repaint::sizes_wrong(picture.len(), output.len()) {
-        return pack(1, 0, 0, 0);
-    }
-    let refused = wrong_chip(chips);
-    if refused < 2 {
-        return pack(2, refused, 0, 0);
+    let refused = refusal(chips, repaint::sizes_wrong(picture.len(), output.len()));
+    if refused != 0 {
+        return refused;
     }
     repaint_records(chips, picture, output)
 }

@@ -1,39 +1,31 @@
 -- `pedralume::pedralume_repaint` meets its contract: numbers 1 and 2, then the repaint.
-use native.Mathlib.Omega.{arith}
-use mathlib.Core.Path.{sym, _∙_}
+use mathlib.Core.Path.{sym}
 use borrow.Author.Needs.{needs}
-use Rattle.pedralume.proofs.Checked.{chips-refused, sizes-refused, chip-refused, passed}
+use Rattle.pedralume.specs.Call.{bufferCallOf}
+use Rattle.pedralume.proofs.Checked.{given-refusal, none-given, passed}
 use Rattle.pedralume.proofs.pedralume_repaint.Statement.{statement}
 use Rattle.pedralume.proofs.pedralume_repaint.Tie as tie
 
 returns : tie.Need-returns
-returns c = rw (c .pack .ensures) (sym (chips-refused _ _ _ _ (c .before .if1 .taken)))
+returns c =
+    let at = c .before .before .before .before .before .before .args in
+    given-refusal _ _ _ _ (c .before .before .sizes-wrong .ensures) (c .before .refusal .ensures) (λ n. bufferCallOf n (at .output .now)) _ (c .if1 .taken)
+
+repaint-records-requires : tie.Need-repaint-records-requires
+repaint-records-requires c κs = none-given _ _ _ _ (c .before .before .before .sizes-wrong .ensures) (c .before .before .refusal .ensures) (c .before .if1 .left) .both-records
 
 returns-2 : tie.Need-returns-2
-returns-2 c = rw (c .pack2 .ensures) (sym (sizes-refused _ _ _ _ (omega arith) (sym (c .before .before .sizes-wrong .ensures) ∙ c .before .if2 .taken)))
-
-returns-3 : tie.Need-returns-3
-returns-3 c =
-    let wrong = c .before .before .wrong-chip .ensures in
-    rw (c .pack3 .ensures, wrong) (sym (chip-refused _ _ _ _ (omega arith) (sym (c .before .before .before .before .sizes-wrong .ensures) ∙ c .before .before .before .if2 .left) (omega (arith, wrong))))
-
-returns-4 : tie.Need-returns-4
-returns-4 c =
+returns-2 c =
     rw (c .before .before .repaint-records .ensures)
-    (sym (passed _ _ _ _ (omega (arith, c .before .before .before .before .before .before .before .before .if1 .left)) (sym (c .before .before .before .before .before .before .before .sizes-wrong .ensures) ∙ c .before .before .before .before .before .before .if2 .left) (omega (arith, c .before .before .before .before .before .wrong-chip .ensures, c .before .before .before .before .if3 .left))))
+    (sym (passed _ _ _ _ (none-given _ _ _ _ (c .before .before .before .before .before .before .sizes-wrong .ensures) (c .before .before .before .before .before .refusal .ensures) (c .before .before .before .before .if1 .left))))
 
 pub pedralume-repaint-spec : {M : Type 1} → statement M
 pedralume-repaint-spec =
     tie.close
     (tie.spec
     (λ c κs. search needs)
+    (λ c κs. search needs)
     returns
-    (λ c κs. search needs)
-    (λ c κs. search needs)
-    returns-2
-    (λ c κs. search needs)
-    (λ c κs. search needs)
-    returns-3
-    (λ c κs. search needs)
+    repaint-records-requires
     (λ c. search needs)
-    returns-4)
+    returns-2)
