@@ -103,11 +103,11 @@
  *   - for the left chip, then the right one, for each of its hidden pages, the lower one first (it
  *     takes picture row r = 0): set page, set column (0, or 19 with reverse ADC), 61 data writes;
  *   - left start line, then right start line, each turned from 0 to 16 or from 16 to 0.
- * Sent in order with nobody else on the bus, each is accepted and leaves both chips ready. The panel
- * keeps what it showed until 252 records are sent; after 253 the left half is the picture's and the
+ * Sent in order with nobody else on the bus, each is accepted and leaves both chips ready. Up to and
+ * with record 252 the panel keeps what it showed; after 253 the left half is the picture's and the
  * right half as before; after 254 all is the picture's, with rows 16 to 31 dark. A repaint may be
  * given up after any record: a new one, called with the chips as they are then and sent whole, ends
- * at its own picture.
+ * at its own picture. Given up just after 253, the panel stays half new until then.
  *
  *
  * WHAT EACH CALL GIVES BACK: number + 256 * place + 2^24 * compared + 2^40 * differing
@@ -233,7 +233,7 @@ enum {
     PEDRALUME_DONE = 0,
     PEDRALUME_BAD_LENGTH = 1,
     PEDRALUME_BAD_CHIP = 2,
-    PEDRALUME_TORN_TRACE = 3,
+    PEDRALUME_CUT_TRACE = 3,
     PEDRALUME_SPARE_BITS = 4,
     PEDRALUME_NO_SUCH_CHIP = 5,
     PEDRALUME_EQUAL_STROBES = 6,
@@ -267,7 +267,7 @@ uint64_t pedralume_frame(const uint8_t *chips, size_t chips_len,
 /*
  * Writes the 254 trace records (1,016 bytes) that bring the picture to the panel: first the 16 rows
  * that each chip hides, last the left and then the right start line. Bytes past these stay. It
- * sends nothing; both chips must be ready.
+ * sends nothing. Chips that are not ready are refused (9 to 12).
  */
 uint64_t pedralume_repaint(const uint8_t *chips, size_t chips_len,
                            const uint8_t *picture, size_t picture_len,

@@ -39,7 +39,7 @@ static const char usage[] =
     "  --pbm FILE         also write the panel to FILE, a binary PBM (P4) of 122 by 32, 1 = lit\n"
     "  --help             print this\n"
     "\n"
-    "The panel keeps what it showed until 252 records of a repaint are sent; after 253 the left\n"
+    "Up to and with record 252 of a repaint the panel keeps what it showed; after 253 the left\n"
     "half is new, after 254 both are. It takes a repaint with both displays on, static drive off,\n"
     "duty 1/16, start line 0 or 16 and read-modify-write off.\n"
     "\n"
@@ -93,7 +93,7 @@ static const char *meaning(unsigned number)
     static const char *const words[] = {
         [PEDRALUME_BAD_LENGTH] = "a trace over 65,536 bytes",
         [PEDRALUME_BAD_CHIP] = "a chip with a field out of its range",
-        [PEDRALUME_TORN_TRACE] = "a length that is no multiple of 4",
+        [PEDRALUME_CUT_TRACE] = "a length that is no multiple of 4",
         [PEDRALUME_SPARE_BITS] = "spare line bits or the fourth byte not 0",
         [PEDRALUME_NO_SUCH_CHIP] = "a chip over 1",
         [PEDRALUME_EQUAL_STROBES] = "RD and WR equal",
@@ -115,7 +115,7 @@ static bool batch_refused(const char *name, uint64_t answer)
     unsigned place = pedralume_place(answer);
     if (number >= PEDRALUME_SPARE_BITS && number <= PEDRALUME_COLUMN_IN_RMW)
         fprintf(stderr, "%s: record %u refused: number %u, %s\n", name, place, number, meaning(number));
-    else if (number == PEDRALUME_TORN_TRACE)
+    else if (number == PEDRALUME_CUT_TRACE)
         fprintf(stderr, "%s: refused: number %u, %s (whole records: %u)\n", name, number, meaning(number), place);
     else
         fprintf(stderr, "%s: refused: number %u, %s\n", name, number, meaning(number));

@@ -320,9 +320,9 @@ static void draw_trace(struct trace *t, struct rng *g, const uint8_t *chips, con
         damage_trace(t, g);
     settle_reads(t, g, chips, ram);
     if (one_in(g, 16)) {
-        unsigned torn = between(g, 1, 3);
-        random_bytes(g, t->bytes + t->len, torn);
-        t->len += torn;
+        unsigned extra = between(g, 1, 3);
+        random_bytes(g, t->bytes + t->len, extra);
+        t->len += extra;
     }
 }
 

@@ -20,7 +20,7 @@ printf '\002' >"$in"; compare "one byte" "$in"
 printf "$(record 2 0 185 0)$(record 2 0 79 0)$(record 3 0 165 0)$(record 3 0 60 0)$(record 2 0 79 0)$(record 5 0 0 0)$(record 5 0 165 0)$(record 5 0 165 0)$(record 4 0 160 0)" >"$in"
 compare "the listing" "$in"
 cp "$in" "$traces/nine"
-printf '\003' >>"$in"; compare "torn" "$in"
+printf '\003' >>"$in"; compare "cut short" "$in"
 for bad in "8 0 0 0" "2 0 0 1" "2 2 0 0" "6 0 0 0" "2 0 128 0"; do
     # shellcheck disable=SC2086
     { cat "$traces/nine"; printf "$(record $bad)"; cat "$traces/nine"; } >"$in"

@@ -29,7 +29,7 @@ records() { # "LINES CHIP HEX" ...: prints the records; a fourth word is the las
 repeated() { # N TEXT
     awk -v n="$1" -v text="$2" 'BEGIN { while (n-- > 0) printf "%s", text }'
 }
-status_reads() { # BYTES: that many bytes of valid records, the last one perhaps torn
+status_reads() { # BYTES: that many bytes of valid records, the last one perhaps cut short
     repeated 20000 abcb | tr abc '\004\000\140' | head -c "$1"
 }
 
@@ -324,9 +324,9 @@ refused_at_2 8 "a column set while read-modify-write is on" "2 0 05" "2 0 E0"
 
 records "2 0 AF" "3 0 01" >"$t"
 printf '\003\000' >>"$t"
-refused "torn" 1 "$t: refused: number 3, a length that is no multiple of 4 (whole records: 2)" "$t"
-refused "torn at 3" 1 "$t: has only 2 records, --at asks for 3" "$t" --at 3
-shown "torn at 2" "$t" --at 2; pixels "torn at 2" "1 $first" "31 $dark"
+refused "cut short" 1 "$t: refused: number 3, a length that is no multiple of 4 (whole records: 2)" "$t"
+refused "cut short at 3" 1 "$t: has only 2 records, --at asks for 3" "$t" --at 3
+shown "cut short at 2" "$t" --at 2; pixels "cut short at 2" "1 $first" "31 $dark"
 
 over="refused: number 1, a trace over 65,536 bytes"
 status_reads 65536 >"$t"

@@ -521,7 +521,7 @@ static void test_bad_chips(void)
     test_stays(&r, t, len, 2, 0);
 }
 
-static void test_torn_traces(void)
+static void test_cut_traces(void)
 {
     static struct trace t;
     static struct rig r;
@@ -1027,7 +1027,7 @@ int main(void)
     test_first_refusal_wins();
     test_bad_lengths();
     test_bad_chips();
-    test_torn_traces();
+    test_cut_traces();
     test_empty_trace();
     test_exact_answers();
     test_longest_trace();

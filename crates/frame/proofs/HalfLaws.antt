@@ -15,7 +15,7 @@ use Rattle.sed1520.specs.declared.registers.Chip.{Chip}
 use Rattle.frame.specs.Frame.{columnOf, lineBit, pixel, frameByte, byteAt, tabulated, frameOf}
 use Rattle.frame.specs.Laws.{firstColumn, SameShown, TwoPages, HalfLaws}
 use Rattle.frame.proofs.Packing.{packed-same, packed-bits}
-use Rattle.frame.proofs.Segments.{segment-hidden, segment-shown}
+use Rattle.frame.proofs.Segments.{column-near, segment-hidden, segment-shown}
 
 -- the value at a place of a table
 tabulated-at : (f : ℕ → ℕ) (at n i : ℕ) → i < n → getD (tabulated f at n) i 0 ≡ f (at + i)
@@ -89,6 +89,7 @@ module _ (c : Chip) (ram : List ℕ) (n r : ℕ) (pages : TwoPages c) where
 pub half-laws : HalfLaws
 half-laws =
     record {
+      near = λ c n h. column-near c n (columnOf c n) h refl;
       whole = λ left right ram. tabulated-length (byteAt left right ram) 0 488;
       place = λ p chip n r segment row. half-place p n r segment row chip;
       depends = λ c d ram other n r h same. half-depends c d ram other n same r h;

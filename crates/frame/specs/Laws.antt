@@ -40,8 +40,9 @@ pub record TwoPages (c : Chip) : Type 0 where
   pub duty : c .«duty_32» ≡ false
   pub line : (c .«start_line» ≡ 0) ⊎ (c .«start_line» ≡ 16)
 
--- the frame's length and where a half lies in it; what alone a half depends on; and the two whole pages, dark below
+-- the RAM column of a segment exists; the frame's length and where a half lies in it; what alone a half depends on; and the two whole pages, dark below
 pub record HalfLaws : Type 0 where
+  pub near : (c : Chip) (n : ℕ) → n < 61 → columnOf c n < 80
   pub whole : (left right : Chip) (ram : List ℕ) → length (frameOf left right ram) ≡ 488
   pub place : (p : Panel) (chip n r : ℕ) → n < 61 → r < 4 → getD (frameOf (p .left) (p .right) (p .ram)) (firstColumn chip + n + columns * r) 0 ≡ frameByte (chipAt p chip) (ramAt p chip) n r
   pub depends : (c d : Chip) (ram other : List ℕ) (n r : ℕ) → r < 4 → SameShown c d ram other n → frameByte c ram n r ≡ frameByte d other n r

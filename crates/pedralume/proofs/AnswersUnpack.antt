@@ -15,6 +15,7 @@ answers-unpack =
       parts = unpacks;
       replay-place = λ p trace answers. omega (arith, replay-bounded p trace answers .place);
       replay-compared = λ p trace answers. omega (arith, replay-bounded p trace answers .compared);
+      replay-differing = λ p trace answers. omega (arith, replay-bounded p trace answers .differing);
       frame-place = places-small;
       repaint-place = repaint.places-small;
     }

@@ -18,7 +18,7 @@ use Rattle.trace.proofs.Bounds.{replay-bounded}
 use Rattle.trace.proofs.ReplayCases.{length-refused}
 use Rattle.sed1520.proofs.Parts.{rest}
 use Rattle.pedralume.specs.ChipRecord.{chipBytes, chipIn, marksRight, recordRight, wrongChip}
-use Rattle.pedralume.specs.Call.{packed, ReplayCall, refusedCall, panelIn, replayed, callOf, replayCall}
+use Rattle.pedralume.specs.Call.{packed, ReplayCall, refusedCall, panelIn, replayed, replayCallOf, replayCall}
 use Rattle.pedralume.proofs.Checked.{Passed, passed, on-chips}
 use Rattle.pedralume.proofs.RecordsUndo.{back}
 use Rattle.trace.specs.Replay as replay
@@ -49,9 +49,9 @@ module _ (chips ram trace answers : List ℕ) where
     unfolding wrongChip
     marks-of = both-pass (recordRight (take 12 chips)) (recordRight (drop 12 chips)) (pass .right)
 
-    -- a trace that is torn is refused before its first record, so the records are written as they were read
-    torn : (length trace % 4 ≡ 0 → ⊥) → replayed (replayOf (panelIn chips ram) trace answers) ≡ refusedCall chips ram answers 3 (length trace / 4)
-    torn h =
+    -- a trace that ends within a record is refused before its first record, so the records are written as they were read
+    cut-short : (length trace % 4 ≡ 0 → ⊥) → replayed (replayOf (panelIn chips ram) trace answers) ≡ refusedCall chips ram answers 3 (length trace / 4)
+    cut-short h =
         let left = both (marksRight (take 12 chips)) (inRange (chipIn (take 12 chips))) (marks-of .0) in
         let rear = both (marksRight (drop 12 chips)) (inRange (chipIn (drop 12 chips))) (marks-of .1) in
         rw (length-refused (panelIn chips ram) trace answers (pass .sizes) (left .1) (rear .1) h, back (take 12 chips) (length-take-le 12 chips (omega (arith, pass .both-records))) (left .0), back (drop 12 chips) (simp length-drop (omega (arith, pass .both-records))) (rear .0), take-append-drop 12 chips)
@@ -60,7 +60,7 @@ module _ (chips ram trace answers : List ℕ) where
     records-replayed =
         passed _ chips (refusedCall chips ram answers) _ pass
         ∙ when (λ (call : ReplayCall). call ≡ replayed (replayOf (panelIn chips ram) trace answers)) (not (eqb (length trace % 4) 0))
-        (λ t. sym (torn (λ e. true≢false (sym t ∙ ap not (eq-eqb (length trace % 4) 0 e)))))
+        (λ t. sym (cut-short (λ e. true≢false (sym t ∙ ap not (eq-eqb (length trace % 4) 0 e)))))
         (λ _. refl)
 
   -- the replay of the chips that were read
@@ -68,7 +68,7 @@ module _ (chips ram trace answers : List ℕ) where
     same-replay : replay.outcome done ram′ answers′ ≡ replayOf (panelIn chips ram) trace answers
     same-replay = on-chips (λ l r. replayOf (panelOf l r ram) trace answers) chips left right is-left is-right ends
 
-    pub written-back : (n : ℕ) (chips′ : List ℕ) → n ≡ packed (done .number) (done .place) (done .compared) (done .differing) → chips′ ≡ chipBytes (done .left) ++ chipBytes (done .right) → callOf n chips′ ram′ answers′ ≡ replayed (replayOf (panelIn chips ram) trace answers)
+    pub written-back : (n : ℕ) (chips′ : List ℕ) → n ≡ packed (done .number) (done .place) (done .compared) (done .differing) → chips′ ≡ chipBytes (done .left) ++ chipBytes (done .right) → replayCallOf n chips′ ram′ answers′ ≡ replayed (replayOf (panelIn chips ram) trace answers)
     written-back n chips′ en ec = rw (en, ec) (ap replayed same-replay)
 
     pub packable : (done .place < 65536) × ((done .compared < 65536) × (done .differing < 65536))

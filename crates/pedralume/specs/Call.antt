@@ -18,7 +18,7 @@ use Rattle.trace.specs.Replay as replay
 abbrev pub packed : ℕ → ℕ → ℕ → ℕ → ℕ
 packed number place compared differing = number + 256 * place + 2 ^ 24 * compared + 2 ^ 40 * differing
 
--- numbers 1 and 2 (with the chip as place) of a call whose sizes are wrong or not, then what follows
+-- number 1 where the chips are not 24 bytes or the call's own test of its other sizes says wrong, number 2 with the chip as place, then what follows
 unfoldable pub checked : {A : Type 0} → Bool → List ℕ → (ℕ → ℕ → A) → A → A
 checked wrong chips refused next =
     if (not (eqb (length chips) 24)) (refused 1 0)
@@ -33,9 +33,9 @@ pub record ReplayCall : Type 0 where
   pub ram : List ℕ
   pub answers : List ℕ
 
--- what a call gives back and leaves in what it was lent, as one value
-abbrev pub callOf : ℕ → List ℕ → List ℕ → List ℕ → ReplayCall
-callOf answer chips ram answers = record { answer = answer; chips = chips; ram = ram; answers = answers }
+-- all of it as one value
+abbrev pub replayCallOf : ℕ → List ℕ → List ℕ → List ℕ → ReplayCall
+replayCallOf answer chips ram answers = record { answer = answer; chips = chips; ram = ram; answers = answers }
 
 -- refused: everything as it came
 abbrev pub refusedCall : List ℕ → List ℕ → List ℕ → ℕ → ℕ → ReplayCall

@@ -8,7 +8,7 @@ ghost use lib.ListN.{length, take, drop};
 ghost use Rattle.frame.specs.Frame.{framed};
 ghost use Rattle.repaint.specs.Repaint.{repaintOf};
 ghost use Rattle.trace.specs.Replay.{replayOf};
-ghost use Rattle.pedralume.specs.Call.{packed, checked, panelIn, replayed, replayCall, callOf, bufferCallOf, framedCall, frameCall, repaintedCall, repaintCall};
+ghost use Rattle.pedralume.specs.Call.{packed, checked, panelIn, replayed, replayCall, replayCallOf, bufferCallOf, framedCall, frameCall, repaintedCall, repaintCall};
 ghost use Rattle.pedralume.specs.ChipRecord.{chipIn};
 use crate::chip_record::chip_in;
 use crate::chip_record::chips_out;
@@ -18,7 +18,7 @@ use crate::packing::pack;
 // The chip records of both chips.
 const CHIPS_BYTES: usize = 24;
 
-// Numbers 1 and 2 of a call whose sizes are wrong or not, packed; 0 where neither holds.
+// Number 1, where the chips are not 24 bytes or a call's other sizes are wrong, or number 2, packed; 0 where neither holds.
 fn refusal(chips: &[u8], wrong: bool) -> u64
     ensures { λ r. ⌜ r ≡ checked wrong (now (chips .entry)) (λ n at. packed n at 0 0) 0 ⌝ }
 {
@@ -38,7 +38,7 @@ fn refusal(chips: &[u8], wrong: bool) -> u64
 // The replay on the chips of two records, which are rewritten afterwards.
 fn replay_records(chips: &mut [u8], ram: &mut [u8], trace: &[u8], answers: &mut [u8]) -> u64
     requires { ⌜ length (now chips) ≡ 24 ⌝ }
-    ensures { λ r. ⌜ callOf r (now (chips .exit)) (now (ram .exit)) (now (answers .exit)) ≡ replayed (replayOf (panelIn (now (chips .entry)) (now (ram .entry))) (now (trace .entry)) (now (answers .entry))) ⌝ }
+    ensures { λ r. ⌜ replayCallOf r (now (chips .exit)) (now (ram .exit)) (now (answers .exit)) ≡ replayed (replayOf (panelIn (now (chips .entry)) (now (ram .entry))) (now (trace .entry)) (now (answers .entry))) ⌝ }
 {
     let left = chip_in(&chips[..12]);
     let right = chip_in(&chips[12..]);
@@ -57,7 +57,7 @@ pub extern "C" fn pedralume_replay(
     trace: &[u8],
     answers: &mut [u8],
 ) -> u64
-    ensures { λ r. ⌜ callOf r (now (chips .exit)) (now (ram .exit)) (now (answers .exit)) ≡ replayCall (now (chips .entry)) (now (ram .entry)) (now (trace .entry)) (now (answers .entry)) ⌝ }
+    ensures { λ r. ⌜ replayCallOf r (now (chips .exit)) (now (ram .exit)) (now (answers .exit)) ≡ replayCall (now (chips .entry)) (now (ram .entry)) (now (trace .entry)) (now (answers .entry)) ⌝ }
 {
     let refused = refusal(
         chips,

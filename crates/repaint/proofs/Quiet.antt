@@ -15,9 +15,8 @@ use Rattle.sed1520.specs.Panel.{Panel, chipAt, ramAt}
 use Rattle.sed1520.specs.Laws.{Registers, registers, Fit}
 use Rattle.sed1520.specs.declared.registers.Chip.{Chip}
 use Rattle.sed1520.proofs.Tests.{tested, either, both, when}
-use Rattle.sed1520.proofs.PanelLaws.{half-length}
+use Rattle.sed1520.proofs.PanelLaws.{every-half-whole}
 use Rattle.frame.specs.Laws.{firstColumn, showsRam, SameShown}
-use Rattle.frame.proofs.Segments.{column-near}
 use Rattle.frame.proofs.HalfLaws.{half-laws}
 use Rattle.repaint.specs.TearFree.{Ready, BothReady, SameHalf, shown}
 
@@ -72,7 +71,7 @@ module _ (p q : Panel) (ready : BothReady p) (k : ℕ) (still : Still (chipAt p 
         duty = same .duty;
         direction = same .reverse;
         line = same .line;
-        bytes = λ row below shows. sym (still .kept _ (row-inside (chipAt p k .«start_line») row _ (line-of (chipAt p k) c) (upper-row (chipAt p k) row (c .duty) shows) (column-near (chipAt p k) n _ h refl)));
+        bytes = λ row below shows. sym (still .kept _ (row-inside (chipAt p k .«start_line») row _ (line-of (chipAt p k) c) (upper-row (chipAt p k) row (c .duty) shows) (half-laws .near (chipAt p k) n h)));
       }
 
   pub half-same : SameHalf k (shown q) (shown p)
@@ -112,7 +111,7 @@ pub quiet-at-start : (p : Panel) → BothReady p → Quiet p p
 quiet-at-start p ready =
     record {
       image = ready .ram;
-      fit = λ k. record { range = ready-at p ready k .range; bytes = half-length p (ready .ram) k };
+      fit = λ k. record { range = ready-at p ready k .range; bytes = every-half-whole p (ready .ram) k };
       still = λ k. record { switches = record { display = refl; static = refl; duty = refl; reverse = refl; modify = refl; line = refl }; kept = λ at h. refl };
     }
 

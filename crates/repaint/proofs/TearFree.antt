@@ -1,4 +1,4 @@
--- Demand 3: a list of repaints, each stopped after any whole cycle, never tears but for the one cycle between the last two records.
+-- Demand 3: of every repaint of a list, each stopped after any whole cycle, only the last two cycles change what the panel shows.
 use Prim.Native.Nat.{ℕ, _+_, _*_, _<_, _≤_}
 use native.Mathlib.Omega.{arith}
 use mathlib.Core.Path.{_≡_, ap, _∙_}

@@ -1,6 +1,6 @@
--- Demand 3 of the minutes: the panel is torn (document 00: a mixed name) only between the last two cycles of a repaint. One statement about a whole
--- list of repaints, from any panel whose chips are both ready, each repaint beginning where the one before it left the panel, each stopped after any
--- whole cycle.
+-- Demand 3 of the minutes: of a repaint's 254 cycles only the last two change what the panel shows, the left half first. So only between these two does it
+-- tear (document 00: a mixed name); stopped just there, it stays so until a later repaint is sent whole. One statement about a whole list of repaints, from
+-- any panel whose chips are both ready, each repaint beginning where the one before it left the panel, each stopped after any whole cycle.
 use Prim.Native.Nat.{ℕ, _+_, _*_, _≤_, _<_}
 use mathlib.Core.Path.{_≡_}
 use mathlib.Core.Bool.{true, false, _||_}
@@ -31,7 +31,7 @@ pub record BothReady (p : Panel) : Type 0 where
   pub right : Ready (p .right)
   pub ram : length (p .ram) ≡ 640
 
--- one repaint of a list: a picture and an output buffer of any length, and after how many of its cycles it stops, from none to all
+-- one repaint of a list: a picture of bytes and an output buffer, both of any length, and after how many of its cycles it stops, from none to all
 pub record Request : Type 0 where
   pub picture : List ℕ
   pub buffer : List ℕ
@@ -70,7 +70,7 @@ pub record Refused (p : Panel) (q : Request) : Type 0 where
   pub buffer : asked p q .buffer ≡ q .buffer
   pub stays : leaves p q ≡ p
 
--- accepted: every sent cycle accepted, both chips ready after each, and the panel torn only between the last two
+-- accepted: every sent cycle accepted, both chips ready after each, and only the last two cycles change what is shown, each its own half
 pub record Accepted (p : Panel) (q : Request) : Type 0 where
   pub number : asked p q .answer .number ≡ 0
   pub place : asked p q .answer .place ≡ 254

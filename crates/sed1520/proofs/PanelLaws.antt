@@ -10,7 +10,7 @@ use lib.Seq.{length-take-le, take-at, drop-at}
 use Rattle.sed1520.specs.Choice.{if}
 use Rattle.sed1520.specs.Chip.{inRange}
 use Rattle.sed1520.specs.Panel.{Panel, chipAt, ramAt, outcomeOf, stepped}
-use Rattle.sed1520.specs.Promises.{Apart, EveryRecordApart}
+use Rattle.sed1520.specs.Promises.{EveryHalfWhole, Apart, EveryRecordApart}
 use Rattle.sed1520.specs.declared.registers.Chip.{Chip}
 use Rattle.sed1520.specs.declared.bus.Record.{Record}
 use Rattle.sed1520.proofs.CycleKeeps.{cycle-keeps}
@@ -99,3 +99,6 @@ chips-in-range p r left right =
 
 pub every-record-apart : EveryRecordApart
 every-record-apart = apart
+
+pub every-half-whole : EveryHalfWhole
+every-half-whole = half-length

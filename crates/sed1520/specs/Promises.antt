@@ -50,6 +50,10 @@ EveryCycleKeeps = (r : Record) (c : Chip) (ram : List ℕ) → Keeps c ram (cycl
 abbrev pub EveryCycleSteps : Type 0
 EveryCycleSteps = (r : Record) (c : Chip) (ram : List ℕ) → ListN.length ram ≡ 320 → inRange c ≡ true → cycleOf r c ram ≡ stepOf r c ram
 
+-- each chip has 320 bytes of an image of 640
+abbrev pub EveryHalfWhole : Type 0
+EveryHalfWhole = (p : Panel) → ListN.length (p .ram) ≡ 640 → (k : ℕ) → ListN.length (ramAt p k) ≡ 320
+
 -- two chips on one bus: the outcome is that of the cycle of the record's own chip, with its bytes; that chip and its bytes are as its cycle leaves them,
 -- the other chip and its bytes as they were
 pub record Apart (p : Panel) (r : Record) : Type 0 where

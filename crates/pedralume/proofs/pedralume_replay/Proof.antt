@@ -1,7 +1,7 @@
 -- `pedralume::pedralume_replay` meets its contract: numbers 1 and 2, then the replay.
 use mathlib.Core.Path.{sym}
 use borrow.Author.Needs.{needs}
-use Rattle.pedralume.specs.Call.{callOf}
+use Rattle.pedralume.specs.Call.{replayCallOf}
 use Rattle.pedralume.proofs.Checked.{given-refusal, none-given}
 use Rattle.pedralume.proofs.CallCases.{records-replayed}
 use Rattle.pedralume.proofs.pedralume_replay.Statement.{statement}
@@ -10,7 +10,7 @@ use Rattle.pedralume.proofs.pedralume_replay.Tie as tie
 returns : tie.Need-returns
 returns c =
     let at = c .before .before .before .before .before .before .before .before .args in
-    given-refusal _ _ _ _ (c .before .before .sizes-wrong .ensures) (c .before .refusal .ensures) (λ n. callOf n (at .chips .now) (at .ram .now) (at .answers .now)) _ (c .if1 .taken)
+    given-refusal _ _ _ _ (c .before .before .sizes-wrong .ensures) (c .before .refusal .ensures) (λ n. replayCallOf n (at .chips .now) (at .ram .now) (at .answers .now)) _ (c .if1 .taken)
 
 replay-records-requires : tie.Need-replay-records-requires
 replay-records-requires c κs = none-given _ _ _ _ (c .before .before .before .before .before .sizes-wrong .ensures) (c .before .before .before .before .refusal .ensures) (c .before .before .before .if1 .left) .both-records
