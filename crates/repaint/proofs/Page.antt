@@ -23,9 +23,9 @@ use Rattle.repaint.specs.Repaint.{hiddenPage, lowestColumn, segmentOf, p
 use Rattle.repaint.specs.TearFree.{Ready, BothReady}
 use Rattle.repaint.proofs.Walk.{Walk}
 use Rattle.repaint.proofs.Sides.{Moved, taken, moved}
-use Rattle.repaint.proofs.Quiet.{Quiet, ready-at, line-of}
+use Rattle.repaint.proofs.Quiet.{placed, placed-switches, Quiet, ready-at, line-of}
 use Rattle.repaint.proofs.Small.{page-small, column-small}
-use Rattle.repaint.proofs.Painting.{same-side, chip-side, ram-side, quiet-moved, placed, Wrote, wrote}
+use Rattle.repaint.proofs.Painting.{same-side, chip-side, ram-side, quiet-moved, Wrote, wrote}
 
 -- where the i-th byte of a hidden page lies
 abbrev pub place : Chip → ℕ → ℕ → ℕ
@@ -88,7 +88,7 @@ module _ (p : Panel) (ready : BothReady p) (picture : List ℕ) where
     q₁ = stepped q set-page
 
     page-quiet : Quiet p q₁
-    page-quiet = quiet-moved p q q₁ k on-page (ramAt q k) quiet page-moved (record { display = refl; static = refl; duty = refl; reverse = refl; modify = refl; line = refl }) (λ at h. refl)
+    page-quiet = quiet-moved p q q₁ k on-page (ramAt q k) quiet page-moved (placed-switches (registers (chipAt q k)) (chipAt q k .page) (chipAt q k .column) page (chipAt q k .column)) (λ at h. refl)
 
     -- the column
     abbrev set-column : Record
@@ -110,7 +110,7 @@ module _ (p : Panel) (ready : BothReady p) (picture : List ℕ) where
     q₂ = stepped q₁ set-column
 
     column-quiet : Quiet p q₂
-    column-quiet = quiet-moved p q₁ q₂ k at-start (ramAt q₁ k) page-quiet column-moved (rw (page-moved .shown) (record { display = refl; static = refl; duty = refl; reverse = refl; modify = refl; line = refl })) (λ at h. refl)
+    column-quiet = quiet-moved p q₁ q₂ k at-start (ramAt q₁ k) page-quiet column-moved (rw (page-moved .shown) (placed-switches (registers (chipAt q k)) page (chipAt q k .column) page (lowestColumn c))) (λ at h. refl)
 
     ram-so-far : ramAt q₂ k ≡ ramAt q k
     ram-so-far = column-moved .stored ∙ page-moved .stored

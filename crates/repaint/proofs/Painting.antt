@@ -19,7 +19,7 @@ use Rattle.sed1520.proofs.Tests.{tested}
 use Rattle.repaint.specs.Repaint.{pictureByte, segmentOf, writes}
 use Rattle.repaint.proofs.Walk.{Taken, Walk}
 use Rattle.repaint.proofs.Sides.{Moved, taken, moved}
-use Rattle.repaint.proofs.Quiet.{Switches, Still, Quiet}
+use Rattle.repaint.proofs.Quiet.{placed, Switches, placed-switches, Still, Quiet}
 
 -- two numbers name the same chip or not
 pub same-side : (j k : ℕ) → (eqb j 0 ≡ eqb k 0) ⊎ (eqb j 0 ≡ eqb k 0 → ⊥)
@@ -67,10 +67,6 @@ module _ (p q s : Panel) (k : ℕ) (next : Registers) (bytes : List ℕ) (quiet 
   pub quiet-moved : Quiet p s
   quiet-moved = record { image = move .image; fit = fit-still; still = still }
 
--- registers with another page and column
-abbrev pub placed : Registers → ℕ → ℕ → Registers
-placed a page column = record { display = a .display; static = a .static; duty = a .duty; reverse = a .reverse; modify = a .modify; page = page; line = a .line; column = column }
-
 -- n writes from the j-th column of a hidden page on, by a chip whose column stands there
 module _ (p : Panel) (c : Chip) (k : ℕ) (chip : k < 2) (picture : List ℕ) (row : ℕ) (a : Registers) (page base : ℕ) (near : page < 4) (hidden : page / 2 ≡ chipAt p k .«start_line» / 16 → ⊥) where
   abbrev byte : ℕ → ℕ
@@ -113,7 +109,7 @@ module _ (p : Panel) (c : Chip) (k : ℕ) (chip : k < 2) (picture : List ℕ) (r
     write-quiet : Quiet p (stepped q write)
     write-quiet =
         quiet-moved p q (stepped q write) k (placed a page (base + j + 1)) bytes quiet write-moved
-        (rw place (record { display = refl; static = refl; duty = refl; reverse = refl; modify = refl; line = refl }))
+        (rw place (placed-switches a page (base + j) page (base + j + 1)))
         (λ at h. getD-set-other (ramAt q k) (ramIndex page (base + j)) at (byte j) 0 (elsewhere at h))
 
     write-stands : getD (ramAt (stepped q write) k) (ramIndex page (base + j)) 0 ≡ byte j

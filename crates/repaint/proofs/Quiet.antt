@@ -29,6 +29,14 @@ pub record Switches (a b : Registers) : Type 0 where
   pub modify : a .modify ≡ b .modify
   pub line : a .line ≡ b .line
 
+-- registers with another page and column
+abbrev pub placed : Registers → ℕ → ℕ → Registers
+placed a page column = record { display = a .display; static = a .static; duty = a .duty; reverse = a .reverse; modify = a .modify; page = page; line = a .line; column = column }
+
+-- wherever page and column stand, the switches are the same
+pub placed-switches : (a : Registers) (page column page′ column′ : ℕ) → Switches (placed a page column) (placed a page′ column′)
+placed-switches a page column page′ column′ = record { display = refl; static = refl; duty = refl; reverse = refl; modify = refl; line = refl }
+
 -- one half shows what it showed: equal switches, equal bytes in the shown pages
 pub record Still (c d : Chip) (ram other : List ℕ) : Type 0 where
   pub switches : Switches (registers c) (registers d)
@@ -112,7 +120,7 @@ quiet-at-start p ready =
     record {
       image = ready .ram;
       fit = λ k. record { range = ready-at p ready k .range; bytes = every-half-whole p (ready .ram) k };
-      still = λ k. record { switches = record { display = refl; static = refl; duty = refl; reverse = refl; modify = refl; line = refl }; kept = λ at h. refl };
+      still = λ k. record { switches = placed-switches (registers (chipAt p k)) (chipAt p k .page) (chipAt p k .column) (chipAt p k .page) (chipAt p k .column); kept = λ at h. refl };
     }
 
 -- the same switches leave a chip ready

@@ -6,7 +6,7 @@ use mathlib.Core.Path.{_≡_, refl, ap}
 use mathlib.Core.Bool.{Bool, true, false, _&&_, _||_, and-false, false≢true}
 use mathlib.Core.Logic.{⊎-elim}
 use mathlib.Core.List.{List, [], _∷_}
-use mathlib.Core.Option.{Option, none, some, Option·none-ne-some as none-ne-some, Option·some-injective as some-injective}
+use mathlib.Core.Option.{none, some, Option·none-ne-some as none-ne-some, Option·some-injective as some-injective}
 use lib.Dec.{ltb, leb, eqb}
 use borrow.Author.Tests.{lt-ltb, le-ltb, le-leb, lt-leb, leb-true, ltb-true, eqb-true}
 use Rattle.sed1520.proofs.Tests.{tested, either, both}
