@@ -1,30 +1,21 @@
 -- The calls of the C side: what each gives back, and what it leaves in every buffer that it was lent.
-use Prim.Native.Nat.{ℕ, _+_, _*_, _/_, _%_, _^_}
-use mathlib.Core.Bool.{Bool, not}
-use mathlib.Core.List.{List, _++_}
-use lib.Dec.{ltb, eqb}
-use lib.ListN.{length, take, drop}
+use Prim.Native.Nat.{ℕ, _+_, _*_, _^_}
+use mathlib.Core.Bool.{not}
+use mathlib.Core.List.{List}
+use lib.Dec.{eqb}
+use lib.ListN.{length}
 use Rattle.sed1520.specs.Choice.{if}
-use Rattle.sed1520.specs.Panel.{Panel}
-use Rattle.trace.specs.Replay.{sizesWrong, replayOf}
-use Rattle.pedralume.specs.ChipRecord.{chipBytes, chipIn, wrongChip}
+use Rattle.sed1520.specs.ChipRecord.{chipsIn}
+use Rattle.sed1520.specs.declared.registers.Chip.{Chip}
+use Rattle.trace.specs.Replay.{InPlace, replayInPlace}
 use Rattle.frame.specs.Frame.{framed}
 use Rattle.repaint.specs.Repaint.{repaintOf}
 use Rattle.frame.specs.Frame as frame
 use Rattle.repaint.specs.Repaint as repaint
-use Rattle.trace.specs.Replay as replay
 
 -- the 64-bit number that a call gives back: number, place, compared and differing, each in bits of its own
 abbrev pub packed : ℕ → ℕ → ℕ → ℕ → ℕ
 packed number place compared differing = number + 256 * place + 2 ^ 24 * compared + 2 ^ 40 * differing
-
--- number 1 where the chips are not 24 bytes or the call's own test of its other sizes says wrong, number 2 with the chip as place, then what follows
-unfoldable pub checked : {A : Type 0} → Bool → List ℕ → (ℕ → ℕ → A) → A → A
-checked wrong chips refused next =
-    if (not (eqb (length chips) 24)) (refused 1 0)
-    (if wrong (refused 1 0)
-    (if (ltb (wrongChip chips) 2) (refused 2 (wrongChip chips))
-    next))
 
 -- what the replay's call gives back, and what it leaves in the chip records, the image and the answer buffer
 pub record ReplayCall : Type 0 where
@@ -37,30 +28,14 @@ pub record ReplayCall : Type 0 where
 abbrev pub replayCallOf : ℕ → List ℕ → List ℕ → List ℕ → ReplayCall
 replayCallOf answer chips ram answers = record { answer = answer; chips = chips; ram = ram; answers = answers }
 
--- refused: everything as it came
-abbrev pub refusedCall : List ℕ → List ℕ → List ℕ → ℕ → ℕ → ReplayCall
-refusedCall chips ram answers n at = record { answer = packed n at 0 0; chips = chips; ram = ram; answers = answers }
+-- a replay over chip records, its number, place and counts packed
+abbrev pub replayedCall : InPlace → ReplayCall
+replayedCall i =
+    replayCallOf (packed (i .answer .number) (i .answer .place) (i .answer .compared) (i .answer .differing)) (i .chips) (i .ram) (i .answers)
 
--- the two chip records and the image as a panel
-abbrev pub panelIn : List ℕ → List ℕ → Panel
-panelIn chips ram = record { left = chipIn (take 12 chips); right = chipIn (drop 12 chips); ram = ram }
-
--- a replay's outcome, with the chips as records again
-abbrev pub replayed : replay.Outcome → ReplayCall
-replayed o =
-    record {
-      answer = packed (o .number) (o .place) (o .compared) (o .differing);
-      chips = chipBytes (o .panel .left) ++ chipBytes (o .panel .right);
-      ram = o .panel .ram;
-      answers = o .answers;
-    }
-
--- numbers 1, 2 and 3, then the replay
+-- the replay over the chip records
 abbrev pub replayCall : List ℕ → List ℕ → List ℕ → List ℕ → ReplayCall
-replayCall chips ram trace answers =
-    checked (sizesWrong (length trace) (length ram) (length answers)) chips (refusedCall chips ram answers)
-    (if (not (eqb (length trace % 4) 0)) (refusedCall chips ram answers 3 (length trace / 4))
-    (replayed (replayOf (panelIn chips ram) trace answers)))
+replayCall chips ram trace answers = replayedCall (replayInPlace chips ram trace answers)
 
 -- what a call that fills one buffer gives back, and what it leaves in it; it only reads what else it was lent
 pub record BufferCall : Type 0 where
@@ -75,22 +50,22 @@ bufferCallOf answer buffer = record { answer = answer; buffer = buffer }
 abbrev pub answered : List ℕ → ℕ → ℕ → BufferCall
 answered buffer number place = bufferCallOf (packed number place 0 0) buffer
 
+-- number 1 where the chip records are not 24 bytes, then the call on their chips, which refuses all else by number
+unfoldable pub onChips : List ℕ → List ℕ → (Chip → Chip → BufferCall) → BufferCall
+onChips chips buffer call = if (not (eqb (length chips) 24)) (answered buffer 1 0) (call (chipsIn chips .left) (chipsIn chips .right))
+
 -- a frame's outcome, its number and place packed
 abbrev pub framedCall : frame.Outcome → BufferCall
 framedCall o = answered (o .frame) (o .answer .number) (o .answer .place)
 
--- numbers 1 and 2, then the frame
+-- the frame of the chips
 abbrev pub frameCall : List ℕ → List ℕ → List ℕ → BufferCall
-frameCall chips ram buffer =
-    checked (frame.sizesWrong (length ram) (length buffer)) chips (answered buffer)
-    (framedCall (framed (chipIn (take 12 chips)) (chipIn (drop 12 chips)) ram buffer))
+frameCall chips ram buffer = onChips chips buffer (λ left right. framedCall (framed left right ram buffer))
 
 -- a repaint's outcome, its number and place packed
 abbrev pub repaintedCall : repaint.Outcome → BufferCall
 repaintedCall o = answered (o .buffer) (o .answer .number) (o .answer .place)
 
--- numbers 1 and 2, then the repaint
+-- the repaint of the chips
 abbrev pub repaintCall : List ℕ → List ℕ → List ℕ → BufferCall
-repaintCall chips picture buffer =
-    checked (repaint.sizesWrong (length picture) (length buffer)) chips (answered buffer)
-    (repaintedCall (repaintOf (chipIn (take 12 chips)) (chipIn (drop 12 chips)) picture buffer))
+repaintCall chips picture buffer = onChips chips buffer (λ left right. repaintedCall (repaintOf left right picture buffer))

@@ -1,3 +1,2 @@
-pub mod ChipRecord
 pub mod Call
 pub mod Promises

@@ -34,5 +34,5 @@ module _ (p : Panel) (image : length (p .ram) ≡ 640) (r : Record) (next : Regi
         fit = rw (apart .own-chip, apart .own-ram, apart .own-cycle) (accepts .fit);
         other-chip = apart .other-chip;
         other-ram = apart .other-ram;
-        image = apart .length;
+        image = apart .image;
       }

@@ -12,7 +12,8 @@ use Rattle.sed1520.specs.Panel.{Panel}
 use Rattle.sed1520.specs.declared.registers.Chip.{Chip}
 use Rattle.sed1520.proofs.Tests.{when}
 use Rattle.sed1520.specs.Records.{wholeRecords}
-use Rattle.trace.specs.Replay.{panelOf, runOf, ended, sizesWrong, replayOf}
+use Rattle.sed1520.specs.Panel.{panelOf}
+use Rattle.trace.specs.Replay.{runOf, ended, sizesWrong, replayOf}
 use Rattle.trace.specs.declared.Replayed.{Replayed}
 use Rattle.trace.proofs.AfterEach.{replies-bound, records-length}
 use Rattle.trace.proofs.Bounds.{replay-bounded}

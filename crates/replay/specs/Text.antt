@@ -10,7 +10,8 @@ use lib.Seq.{sets}
 use Rattle.sed1520.specs.Choice.{if}
 use Rattle.sed1520.specs.Chip.{fresh}
 use Rattle.sed1520.specs.Panel.{Panel}
-use Rattle.trace.specs.Replay.{Outcome, panelOf, replayOf}
+use Rattle.sed1520.specs.Panel.{panelOf}
+use Rattle.trace.specs.Replay.{Outcome, replayOf}
 
 -- the decimal digits of a number that has at most so many, in ASCII, no zeros in front
 unfoldable pub decimal : ℕ → ℕ → List ℕ

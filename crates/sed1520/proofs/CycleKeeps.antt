@@ -45,10 +45,10 @@ execute-ranges Reset a c h r = record { page = omega arith; line = omega arith; 
 module _ (c : Chip) (ram : List ℕ) where
   done-keeps : (k b : ℕ) (next : Chip) (after : List ℕ) → (Ranges c → Ranges next) → length after ≡ length ram → Keeps c ram (outcome (answered k b next) after)
   done-keeps k b next after r l =
-      record { place = refl; length = l; range = λ e. in-range next (r (ranges c e)); refused = λ h. absurd (h refl) }
+      record { place = refl; same-size = l; range = λ e. in-range next (r (ranges c e)); refused = λ h. absurd (h refl) }
 
   refusal-keeps : (n : ℕ) → Keeps c ram (outcome (refusal n c) ram)
-  refusal-keeps n = record { place = refl; length = refl; range = λ e. e; refused = λ h. refl }
+  refusal-keeps n = record { place = refl; same-size = refl; range = λ e. e; refused = λ h. refl }
 
   executed-keeps : (b : ℕ) (o : Option Command) → ((m : Command) → o ≡ some m → m .argument < count (m .kind)) → Keeps c ram (outcome (executed b o c) ram)
   executed-keeps b none h = refusal-keeps 7

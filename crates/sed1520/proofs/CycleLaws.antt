@@ -18,7 +18,7 @@ use Rattle.sed1520.specs.declared.bus.Record.{Record}
 use Rattle.sed1520.proofs.ActionCases.{command-executed, locked-below, unlocked-above, data-write-stored}
 use Rattle.sed1520.proofs.CycleKeeps.{cycle-keeps}
 use Rattle.sed1520.proofs.OneRule.{decoded-argument}
-use Rattle.sed1520.proofs.StepCases.{action-command, action-data-write, step-action, cycle-step}
+use Rattle.sed1520.proofs.StepCases.{action-command, action-data-write, not-refused, step-action, cycle-step}
 
 module _ (c : Chip) (ram : List ℕ) (fit : Fit c ram) where
   -- a cycle whose outcome is known
@@ -30,7 +30,7 @@ module _ (c : Chip) (ram : List ℕ) (fit : Fit c ram) where
         place = keeps .place;
         shown = ap (λ (o : Outcome). registers (o .answer .chip)) e ∙ s;
         stored = ap (λ (o : Outcome). o .ram) e;
-        fit = record { range = keeps .range (fit .range); bytes = keeps .length ∙ fit .bytes };
+        fit = record { range = keeps .range (fit .range); bytes = keeps .same-size ∙ fit .bytes };
       }
 
   module _ (k : ℕ) (addressed : k < 2) where
@@ -39,7 +39,7 @@ module _ (c : Chip) (ram : List ℕ) (fit : Fit c ram) where
     command-cycle kind a h free =
         let b = first kind + a in
         cycle-step (sent 2 k b) c ram (fit .bytes) (fit .range)
-        ∙ step-action (sent 2 k b) c ram (omega arith) refl addressed
+        ∙ step-action (sent 2 k b) c ram (not-refused (sent 2 k b) (omega arith) refl addressed (λ h. omega arith))
         ∙ action-command 2 b c ram refl
         ∙ ap (λ x. outcome x ram) (command-executed b c (record { kind = kind; argument = a }) (ap (λ (t : Told Command). t .value) (decoded-argument kind a h)) free)
 
@@ -62,7 +62,7 @@ module _ (c : Chip) (ram : List ℕ) (fit : Fit c ram) where
     data-write b h =
         accepted (sent 3 k b) (withColumn (c .column + 1) c) (set ram (ramIndex (c .page) (c .column)) b) (registers (withColumn (c .column + 1) c))
         (cycle-step (sent 3 k b) c ram (fit .bytes) (fit .range)
-        ∙ step-action (sent 3 k b) c ram (omega arith) refl addressed
+        ∙ step-action (sent 3 k b) c ram (not-refused (sent 3 k b) (omega arith) refl addressed (λ h. omega arith))
         ∙ action-data-write 3 b c ram refl
         ∙ data-write-stored c ram h b)
         refl

@@ -4,8 +4,13 @@ pub mod CommandBytes
 pub mod CycleKeeps
 pub mod CycleLaws
 pub mod Examples
+pub mod Marks
 pub mod OneRule
 pub mod PanelLaws
 pub mod Parts
+pub mod RecordStepCases
+pub mod RecordSteps
+pub mod RecordsUndo
 pub mod StepCases
 pub mod Tests
+pub mod TwoParts

@@ -69,14 +69,14 @@ module _ (p : Panel) (whole : length (p .ram) ≡ 640) where
   apart r =
       let next = outcomeOf p r .answer .chip in
       let bytes = outcomeOf p r .ram in
-      let half = cycle-keeps (chipAt p (r .chip)) (ramAt p (r .chip)) r .length ∙ half-length (r .chip) in
+      let half = cycle-keeps (chipAt p (r .chip)) (ramAt p (r .chip)) r .same-size ∙ half-length (r .chip) in
       record {
         own-cycle = refl;
         own-chip = own-chip next bytes half (eqb (r .chip) 0);
         own-ram = own-ram next bytes half (eqb (r .chip) 0);
         other-chip = λ k h. other-chip next bytes half (eqb k 0) (eqb (r .chip) 0) h;
         other-ram = λ k h. other-ram next bytes half (eqb k 0) (eqb (r .chip) 0) h;
-        length = put-length next bytes half (eqb (r .chip) 0);
+        image = put-length next bytes half (eqb (r .chip) 0);
       }
 
 -- a refused record leaves the whole panel as it was

@@ -1,23 +1,24 @@
 -- Which action a record asks for, and what refuses it, as equations of `stepOf` and `cycleOf`.
 use Prim.Native.Nat.{ℕ, _<_, _≤_}
-use mathlib.Core.Path.{_≡_}
-use mathlib.Core.Bool.{true, false, or-true}
+use native.Mathlib.Omega.{arith}
+use mathlib.Core.Path.{_≡_, refl, _∙_}
+use mathlib.Core.Bool.{Bool, true, false, not, _||_, or-true}
 use mathlib.Core.List.{List}
-use lib.Dec.{leb}
+use mathlib.Core.Logic.{⊎-elim}
+use lib.Dec.{leb, eqb}
 use lib.ListN.{length}
-use borrow.Author.Tests.{le-leb, lt-leb, eq-eqb, ne-eqb}
+use borrow.Author.Tests.{le-leb, lt-leb, leb-true, leb-false, eq-eqb, ne-eqb, eqb-false}
+use Rattle.sed1520.specs.Choice.{if}
+use Rattle.sed1520.specs.RecordStep.{busRefusal}
+use Rattle.sed1520.proofs.Tests.{tested, neither}
 use Rattle.sed1520.specs.Chip.{inRange}
-use Rattle.sed1520.specs.Cycle.{outcome, refusal, readLine, writeLine, actionOf, commandWrite, dataWrite, dataRead, statusRead, stepOf, cycleOf}
+use Rattle.sed1520.specs.Cycle.{Outcome, outcome, refusal, readLine, writeLine, actionOf, commandWrite, dataWrite, dataRead, statusRead, stepOf, cycleOf}
 use Rattle.sed1520.specs.declared.registers.Chip.{Chip}
 use Rattle.sed1520.specs.declared.bus.Record.{Record}
 use Rattle.sed1520.specs.Promises.{EveryCycleSteps}
 
--- the eight values of the control lines
+-- the four values of the control lines that ask for an action
 module _ (lines b : ℕ) (c : Chip) (ram : List ℕ) where
-  pub action-strobes : readLine lines ≡ writeLine lines → actionOf lines b c ram ≡ outcome (refusal 6 c) ram
-  unfolding actionOf
-  action-strobes h = rw (eq-eqb (readLine lines) (writeLine lines) h)
-
   pub action-command : lines ≡ 2 → actionOf lines b c ram ≡ outcome (commandWrite b c) ram
   unfolding actionOf
   action-command h = rw h
@@ -34,24 +35,79 @@ module _ (lines b : ℕ) (c : Chip) (ram : List ℕ) where
   unfolding actionOf
   action-data-read h = rw h
 
-module _ (r : Record) (c : Chip) (ram : List ℕ) where
-  -- number 4 by a spare line bit, and by the fourth byte
-  pub step-spare-line : 8 ≤ r .lines → stepOf r c ram ≡ outcome (refusal 4 c) ram
-  unfolding stepOf
-  step-spare-line h = rw (le-leb 8 (r .lines) h)
+-- what refuses a bus record before any action: numbers 4 (by a spare line, by the fourth byte), 5 and 6
+module _ (r : Record) where
+  pub refused-line : 8 ≤ r .lines → busRefusal r ≡ 4
+  unfolding busRefusal
+  refused-line h = rw (le-leb 8 (r .lines) h)
 
-  pub step-spare-byte : (r .spare ≡ 0 → ⊥) → stepOf r c ram ≡ outcome (refusal 4 c) ram
-  unfolding stepOf
-  step-spare-byte h = rw (ne-eqb (r .spare) 0 h, or-true (leb 8 (r .lines)))
+  pub refused-spare : (r .spare ≡ 0 → ⊥) → busRefusal r ≡ 4
+  unfolding busRefusal
+  refused-spare h = rw (ne-eqb (r .spare) 0 h, or-true (leb 8 (r .lines)))
 
   module _ (lines : r .lines < 8) (spare : r .spare ≡ 0) where
-    pub step-no-chip : 2 ≤ r .chip → stepOf r c ram ≡ outcome (refusal 5 c) ram
-    unfolding stepOf
-    step-no-chip h = rw (lt-leb 8 (r .lines) lines, eq-eqb (r .spare) 0 spare, le-leb 2 (r .chip) h)
+    pub refused-chip : 2 ≤ r .chip → busRefusal r ≡ 5
+    unfolding busRefusal
+    refused-chip h = rw (lt-leb 8 (r .lines) lines, eq-eqb (r .spare) 0 spare, le-leb 2 (r .chip) h)
 
-    pub step-action : r .chip < 2 → stepOf r c ram ≡ actionOf (r .lines) (r .byte) c ram
-    unfolding stepOf
-    step-action h = rw (lt-leb 8 (r .lines) lines, eq-eqb (r .spare) 0 spare, lt-leb 2 (r .chip) h)
+    module _ (chip : r .chip < 2) where
+      strobes-decide : busRefusal r ≡ if (eqb (readLine (r .lines)) (writeLine (r .lines))) 6 0
+      unfolding busRefusal
+      strobes-decide = rw (lt-leb 8 (r .lines) lines, eq-eqb (r .spare) 0 spare, lt-leb 2 (r .chip) chip)
+
+      pub refused-strobes : readLine (r .lines) ≡ writeLine (r .lines) → busRefusal r ≡ 6
+      refused-strobes h = strobes-decide ∙ rw (eq-eqb (readLine (r .lines)) (writeLine (r .lines)) h)
+
+      pub not-refused : (readLine (r .lines) ≡ writeLine (r .lines) → ⊥) → busRefusal r ≡ 0
+      not-refused h = strobes-decide ∙ rw (ne-eqb (readLine (r .lines)) (writeLine (r .lines)) h)
+
+-- below 8, RD and WR differ in 2 to 5
+pub strobes-differ : (n : ℕ) → 2 ≤ n → n ≤ 5 → readLine n ≡ writeLine n → ⊥
+strobes-differ n l h e =
+    ⊎-elim (λ t. let low = leb-true n 3 t in omega arith) (λ t. let high = leb-false n 3 t in omega arith) (tested (leb n 3))
+
+-- a bus record that asks for an action of a chip
+pub record Asks (r : Record) : Type 0 where
+  pub from : 2 ≤ r .lines
+  pub to : r .lines ≤ 5
+  pub chip : r .chip < 2
+
+pub asks : (r : Record) → busRefusal r ≡ 0 → Asks r
+unfolding busRefusal
+asks r e =
+    let tests = none (leb 8 (r .lines) || not (eqb (r .spare) 0)) (leb 2 (r .chip)) (eqb (readLine (r .lines)) (writeLine (r .lines))) e in
+    let lines = leb-false 8 (r .lines) (neither (leb 8 (r .lines)) _ (tests .0) .0) in
+    let strobes = eqb-false (readLine (r .lines)) (writeLine (r .lines)) (tests .1 .1) in
+    record { from = omega arith; to = omega arith; chip = leb-false 2 (r .chip) (tests .1 .0) }
+  where
+    none : (a b s : Bool) → _≡_ {A = ℕ} (if a 4 (if b 5 (if s 6 0))) 0 → (a ≡ false) × ((b ≡ false) × (s ≡ false))
+    none true b s h = absurd (omega arith)
+    none false true s h = absurd (omega arith)
+    none false false true h = absurd (omega arith)
+    none false false false h = (refl, (refl, refl))
+
+-- the chain of the three numbers, and the number that it gives
+chain : (refused : ℕ → Outcome) (a b s : Bool) (acts : Outcome)
+    → if a (refused 4) (if b (refused 5) (if s (refused 6) acts))
+    ≡ if (eqb (if a 4 (if b 5 (if s 6 0))) 0) (if s (refused 6) acts) (refused (if a 4 (if b 5 (if s 6 0))))
+chain refused true b s acts = refl
+chain refused false true s acts = refl
+chain refused false false true acts = refl
+chain refused false false false acts = refl
+
+module _ (r : Record) (c : Chip) (ram : List ℕ) where
+  -- a step is the action of a bus record that is not refused
+  by-refusal : stepOf r c ram ≡ if (eqb (busRefusal r) 0) (actionOf (r .lines) (r .byte) c ram) (outcome (refusal (busRefusal r) c) ram)
+  unfolding stepOf busRefusal actionOf
+  by-refusal =
+      chain (λ n. outcome (refusal n c) ram)
+      (leb 8 (r .lines) || not (eqb (r .spare) 0)) (leb 2 (r .chip)) (eqb (readLine (r .lines)) (writeLine (r .lines))) _
+
+  pub step-action : busRefusal r ≡ 0 → stepOf r c ram ≡ actionOf (r .lines) (r .byte) c ram
+  step-action e = by-refusal ∙ rw e
+
+  pub step-refused : (busRefusal r ≡ 0 → ⊥) → stepOf r c ram ≡ outcome (refusal (busRefusal r) c) ram
+  step-refused h = by-refusal ∙ rw (ne-eqb (busRefusal r) 0 h)
 
   -- numbers 1 and 2, and the cycle past them
   pub cycle-length : (length ram ≡ 320 → ⊥) → cycleOf r c ram ≡ outcome (refusal 1 c) ram

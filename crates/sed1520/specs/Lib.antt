@@ -4,6 +4,8 @@ pub mod Command
 pub mod Memory
 pub mod Cycle
 pub mod Panel
+pub mod ChipRecord
+pub mod RecordStep
 pub mod Records
 pub mod Laws
 pub mod Promises

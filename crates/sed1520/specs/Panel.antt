@@ -14,6 +14,10 @@ pub record Panel : Type 0 where
   pub right : Chip
   pub ram : List ℕ
 
+-- two chips and the image of both are a panel
+abbrev pub panelOf : Chip → Chip → List ℕ → Panel
+panelOf left right ram = record { left = left; right = right; ram = ram }
+
 -- chip 0 is the left one; a record that names neither is the right chip's to refuse
 abbrev pub chipAt : Panel → ℕ → Chip
 chipAt p k = if (eqb k 0) (p .left) (p .right)

@@ -2,14 +2,16 @@
 use Prim.Native.Nat.{ℕ, zero, suc, _+_, _<_, _≤_}
 use mathlib.Core.Path.{_≡_}
 use mathlib.Core.Bool.{Bool, true, false}
-use mathlib.Core.List.{List}
+use mathlib.Core.List.{List, [], _∷_}
 use lib.Dec.{eqb}
-use lib.ListN
+use lib.ListN.{length, take, drop}
 use Rattle.sed1520.specs.Choice.{if}
-use Rattle.sed1520.specs.Chip.{inRange}
+use Rattle.sed1520.specs.Chip.{inRange, fresh}
+use Rattle.sed1520.specs.ChipRecord.{chipBytes, chipsBytes, marksRight, recordRight, chipIn, chipsOf, chipsIn, panelIn}
 use Rattle.sed1520.specs.Command.{first, count, told, notTold, decodeOf, encodeOf}
 use Rattle.sed1520.specs.Cycle.{Outcome, outcome, refusal, stepOf, cycleOf}
 use Rattle.sed1520.specs.Panel.{Panel, chipAt, ramAt, outcomeOf, stepped}
+use Rattle.sed1520.specs.RecordStep.{stepRecords}
 use Rattle.sed1520.specs.declared.registers.Chip.{Chip}
 use Rattle.sed1520.specs.declared.commands.Command.{Command}
 use Rattle.sed1520.specs.declared.bus.Record.{Record}
@@ -38,7 +40,7 @@ pub record OneRule : Type 0 where
 -- is kind 0, byte 0
 pub record Keeps (c : Chip) (ram : List ℕ) (o : Outcome) : Type 0 where
   pub place : o .answer .place ≡ 0
-  pub length : ListN.length (o .ram) ≡ ListN.length ram
+  pub same-size : length (o .ram) ≡ length ram
   pub range : inRange c ≡ true → inRange (o .answer .chip) ≡ true
   pub refused : (o .answer .number ≡ 0 → ⊥) → o ≡ outcome (refusal (o .answer .number) c) ram
 
@@ -48,11 +50,11 @@ EveryCycleKeeps = (r : Record) (c : Chip) (ram : List ℕ) → Keeps c ram (cycl
 
 -- past numbers 1 and 2, every cycle is a step
 abbrev pub EveryCycleSteps : Type 0
-EveryCycleSteps = (r : Record) (c : Chip) (ram : List ℕ) → ListN.length ram ≡ 320 → inRange c ≡ true → cycleOf r c ram ≡ stepOf r c ram
+EveryCycleSteps = (r : Record) (c : Chip) (ram : List ℕ) → length ram ≡ 320 → inRange c ≡ true → cycleOf r c ram ≡ stepOf r c ram
 
 -- each chip has 320 bytes of an image of 640
 abbrev pub EveryHalfWhole : Type 0
-EveryHalfWhole = (p : Panel) → ListN.length (p .ram) ≡ 640 → (k : ℕ) → ListN.length (ramAt p k) ≡ 320
+EveryHalfWhole = (p : Panel) → length (p .ram) ≡ 640 → (k : ℕ) → length (ramAt p k) ≡ 320
 
 -- two chips on one bus: the outcome is that of the cycle of the record's own chip, with its bytes; that chip and its bytes are as its cycle leaves them,
 -- the other chip and its bytes as they were
@@ -62,8 +64,39 @@ pub record Apart (p : Panel) (r : Record) : Type 0 where
   pub own-ram : ramAt (stepped p r) (r .chip) ≡ outcomeOf p r .ram
   pub other-chip : (k : ℕ) → (eqb k 0 ≡ eqb (r .chip) 0 → ⊥) → chipAt (stepped p r) k ≡ chipAt p k
   pub other-ram : (k : ℕ) → (eqb k 0 ≡ eqb (r .chip) 0 → ⊥) → ramAt (stepped p r) k ≡ ramAt p k
-  pub length : ListN.length (stepped p r .ram) ≡ 640
+  pub image : length (stepped p r .ram) ≡ 640
 
 -- for every record on every panel of 640 bytes
 abbrev pub EveryRecordApart : Type 0
-EveryRecordApart = (p : Panel) → ListN.length (p .ram) ≡ 640 → (r : Record) → Apart p r
+EveryRecordApart = (p : Panel) → length (p .ram) ≡ 640 → (r : Record) → Apart p r
+
+-- a chip and its record: the record of a chip is read back as that chip, the chip of a record that passes is written back as that record, a record passes
+-- number 2 exactly when its chip does, and a chip's record when the chip does; the same of two records; the record of the fresh chip
+pub record RecordsUndo : Type 0 where
+  pub there : (c : Chip) → chipIn (chipBytes c) ≡ c
+  pub back : (b : List ℕ) → length b ≡ 12 → marksRight b ≡ true → chipBytes (chipIn b) ≡ b
+  pub passes : (b : List ℕ) → inRange (chipIn b) ≡ recordRight b
+  pub whole : (c : Chip) → recordRight (chipBytes c) ≡ inRange c
+  pub two-there : (left right : Chip) → chipsIn (chipsBytes left right) ≡ chipsOf left right
+  pub two-back : (chips : List ℕ) → length chips ≡ 24 → recordRight (take 12 chips) ≡ true → recordRight (drop 12 chips) ≡ true
+      → chipsBytes (chipsIn chips .left) (chipsIn chips .right) ≡ chips
+  pub fresh-record : chipBytes fresh ≡ 0 ∷ 0 ∷ 1 ∷ 0 ∷ 0 ∷ 0 ∷ 0 ∷ 0 ∷ 0 ∷ 0 ∷ 0 ∷ 0 ∷ []
+
+-- two chip records that number 2 lets pass, and the whole image
+pub record RecordsFit (chips ram : List ℕ) : Type 0 where
+  pub records : length chips ≡ 24
+  pub left : recordRight (take 12 chips) ≡ true
+  pub right : recordRight (drop 12 chips) ≡ true
+  pub image : length ram ≡ 640
+
+-- a step over records is the cycle of the chip that the bus record names: its answer, the panel after it, and records that pass again
+pub record StepsPanel (r : Record) (chips ram : List ℕ) : Type 0 where
+  pub number : stepRecords r chips ram .answer .number ≡ outcomeOf (panelIn chips ram) r .answer .number
+  pub kind : stepRecords r chips ram .answer .kind ≡ outcomeOf (panelIn chips ram) r .answer .kind
+  pub byte : stepRecords r chips ram .answer .byte ≡ outcomeOf (panelIn chips ram) r .answer .byte
+  pub panel : panelIn (stepRecords r chips ram .chips) (stepRecords r chips ram .ram) ≡ stepped (panelIn chips ram) r
+  pub fit : RecordsFit (stepRecords r chips ram .chips) (stepRecords r chips ram .ram)
+
+-- on every two records that number 2 lets pass over the whole image
+abbrev pub EveryRecordStep : Type 0
+EveryRecordStep = (r : Record) (chips ram : List ℕ) → RecordsFit chips ram → StepsPanel r chips ram

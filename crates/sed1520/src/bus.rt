@@ -1,7 +1,8 @@
 // One bus cycle: what the bus carried, and which action of the chip it asks for.
-ghost use Prim.Native.Nat.{_<_};
+ghost use Prim.Native.Nat.{_≤_};
 ghost use mathlib.Core.Path.{_≡_};
-ghost use Rattle.sed1520.specs.Cycle.{outcome, actionOf, stepOf, cycleOf};
+ghost use Rattle.sed1520.specs.Cycle.{outcome, actionOf, cycleOf};
+ghost use Rattle.sed1520.specs.RecordStep.{busRefusal};
 use crate::actions::Answer;
 use crate::registers::Chip;
 
@@ -14,34 +15,39 @@ pub struct Record {
     pub spare: u8,
 }
 
-// The action that the control lines ask for.
-fn act(lines: u8, byte: u8, chip: Chip, ram: &mut [u8]) -> Answer
-    requires { ⌜ lines < 8 ⌝ }
-    ensures { λ r. ⌜ outcome r (now (ram .exit)) ≡ actionOf lines byte chip (now (ram .entry)) ⌝ }
-{
-    match lines {
-        2 => chip.command(byte),
-        3 => chip.data_write(byte, ram),
-        4 => chip.status(),
-        5 => chip.data_read(ram),
-        _ => Answer::refused(6, chip),
+impl Record {
+    // Numbers 4, 5 and 6, lowest first, or 0.
+    pub(crate) fn refusal(self) -> u8
+        ensures { λ r. ⌜ r ≡ busRefusal self ⌝ }
+    {
+        if 8 <= self.lines {
+            return 4;
+        }
+        if self.spare != 0 {
+            return 4;
+        }
+        if 2 <= self.chip {
+            return 5;
+        }
+        let lines = self.lines;
+        match lines {
+            2..=5 => 0,
+            _ => 6,
+        }
     }
 }
 
-// A cycle past numbers 1 and 2, for a caller that has tested the chip's range and the RAM's length.
-pub fn step(bus: Record, chip: Chip, ram: &mut [u8]) -> Answer
-    ensures { λ r. ⌜ outcome r (now (ram .exit)) ≡ stepOf bus chip (now (ram .entry)) ⌝ }
+// The action that the control lines ask for.
+fn act(lines: u8, byte: u8, chip: Chip, ram: &mut [u8]) -> Answer
+    requires { ⌜ (2 ≤ lines) × (lines ≤ 5) ⌝ }
+    ensures { λ r. ⌜ outcome r (now (ram .exit)) ≡ actionOf lines byte chip (now (ram .entry)) ⌝ }
 {
-    if 8 <= bus.lines {
-        return Answer::refused(4, chip);
+    match lines {
+        3 => chip.data_write(byte, ram),
+        4 => chip.status(),
+        5 => chip.data_read(ram),
+        _ => chip.command(byte),
     }
-    if bus.spare != 0 {
-        return Answer::refused(4, chip);
-    }
-    if 2 <= bus.chip {
-        return Answer::refused(5, chip);
-    }
-    act(bus.lines, bus.byte, chip, ram)
 }
 
 // One cycle of any chip over any RAM.
@@ -54,5 +60,9 @@ pub fn cycle(bus: Record, chip: Chip, ram: &mut [u8]) -> Answer
     if !chip.in_range() {
         return Answer::refused(2, chip);
     }
-    step(bus, chip, ram)
+    let number = bus.refusal();
+    if number != 0 {
+        return Answer::refused(number, chip);
+    }
+    act(bus.lines, bus.byte, chip, ram)
 }

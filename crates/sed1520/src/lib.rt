@@ -1,7 +1,9 @@
 // One SED1520: its registers, its commands, and one bus cycle over its own 320 bytes of display RAM.
 pub mod actions;
 pub mod bus;
+pub mod chip_record;
 pub mod commands;
 mod effects;
 mod memory;
+pub mod record_step;
 pub mod registers;

@@ -5,8 +5,8 @@ ghost use Rattle.sed1520.specs.Chip.{inRange, fresh, latched, stale, kin
 // The byte that the next data read answers (document 01: the holder): fresh where a data read loaded it and nothing
 // made it stale since.
 pub enum ReadLatch {
-    Fresh(u8),
     Stale(u8),
+    Fresh(u8),
 }
 
 impl ReadLatch {

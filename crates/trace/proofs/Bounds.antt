@@ -6,11 +6,13 @@ use mathlib.Core.List.{List, [], _∷_}
 use lib.Dec.{eqb}
 use lib.ListN.{length}
 use Rattle.sed1520.specs.Chip.{inRange}
+use Rattle.sed1520.specs.ChipRecord.{panelIn}
 use Rattle.sed1520.specs.Panel.{Panel}
 use Rattle.sed1520.specs.declared.bus.Record.{Record}
 use Rattle.sed1520.proofs.Tests.{when}
 use Rattle.sed1520.specs.Records.{wholeRecords}
-use Rattle.trace.specs.Replay.{Reply, runOf, isCompared, comparedIn, differingIn, Outcome, ended, sizesWrong, replayOf}
+use Rattle.trace.specs.Replay.{Reply, runOf, isCompared, comparedIn, differingIn, Outcome, ended, sizesWrong, replayOf, InPlace, replayInPlace}
+use Rattle.trace.specs.declared.Ran.{Ran}
 use Rattle.trace.proofs.AfterEach.{replies-bound, records-length}
 use Rattle.trace.proofs.ReplayCases.{sizes-right}
 use Rattle.trace.proofs.Upto.{at-most-one}
@@ -47,3 +49,17 @@ replay-bounded p trace answers =
     (λ _. when Bounded (not (inRange (p .right))) (λ _. record { place = omega arith; compared = omega arith; differing = omega arith })
     (λ _. when Bounded (not (eqb (length trace % 4) 0)) (λ _. record { place = omega arith; compared = omega arith; differing = omega arith })
     (λ _. ended-bounded p trace answers (right .short)))))
+
+-- so they are over chip records
+pub record BoundedRan (r : Ran) : Type 0 where
+  pub place : r .place ≤ 16384
+  pub compared : r .compared ≤ 16384
+  pub differing : r .differing ≤ 16384
+
+pub in-place-bounded : (chips ram trace answers : List ℕ) → BoundedRan (replayInPlace chips ram trace answers .answer)
+unfolding replayInPlace
+in-place-bounded chips ram trace answers =
+    let whole = replay-bounded (panelIn chips ram) trace answers in
+    when (λ (i : InPlace). BoundedRan (i .answer)) (not (eqb (length chips) 24))
+    (λ _. record { place = omega arith; compared = omega arith; differing = omega arith })
+    (λ _. record { place = whole .place; compared = whole .compared; differing = whole .differing })

@@ -1,7 +1,7 @@
 pub mod AfterEach
 pub mod Bounds
+pub mod InPlace
 pub mod ReplayCases
 pub mod Resumed
-pub mod TakenTurn
 pub mod Upto
 pub mod Ends

@@ -8,27 +8,36 @@ use lib.Dec.{eqb}
 use lib.ListN.{length, take, drop, set, length-set}
 use lib.Seq.{drop-drop}
 use Rattle.sed1520.specs.Choice.{if}
-use Rattle.sed1520.specs.Panel.{outcomeOf}
+use Rattle.sed1520.specs.ChipRecord.{panelIn}
+use Rattle.sed1520.specs.Panel.{Panel, outcomeOf, stepped}
+use Rattle.sed1520.specs.Promises.{RecordsFit}
+use Rattle.sed1520.specs.RecordStep.{Acted, acted, stepRecords}
+use Rattle.sed1520.specs.Records.{front, recordsIn, wholeRecords}
 use Rattle.sed1520.specs.declared.bus.Record.{Record}
-use Rattle.sed1520.specs.declared.registers.Chip.{Chip}
+use Rattle.sed1520.specs.declared.record_step.BareAnswer.{BareAnswer}
 use Rattle.sed1520.proofs.PanelLaws.{refused-record}
 use Rattle.sed1520.proofs.Parts.{rest}
-use Rattle.sed1520.specs.Records.{front, recordsIn, wholeRecords}
-use Rattle.trace.specs.Replay.{isCompared, Outcome, panelOf, runOf, ended}
-use Rattle.trace.specs.Turns.{Fits, Turned}
-use Rattle.trace.specs.declared.Turn.{Turn}
+use Rattle.sed1520.proofs.RecordSteps.{every-record-step}
+use Rattle.trace.specs.Replay.{isCompared, Outcome, runOf, ended}
 use Rattle.trace.proofs.Resumed.{resumed, stoppedAt, begun, no-more, refused-turn, accepted-turn}
-use Rattle.trace.proofs.TakenTurn.{turned-fits}
 
-pub record Upto (trace : List ℕ) (space : ℕ) (whole : Outcome) (left right : Chip) (ram answers : List ℕ) (compared differing at : ℕ) : Type 0 where
+pub record Upto (trace : List ℕ) (space : ℕ) (whole : Outcome) (chips ram answers : List ℕ) (compared differing at : ℕ) : Type 0 where
   pub size : length trace ≤ 65536
   pub enough : 2 * (length trace / 4) ≤ space
   pub within : at ≤ length trace / 4
-  pub fits : Fits left right ram
+  pub fits : RecordsFit chips ram
   pub buffer : length answers ≡ space
   pub fewer : compared ≤ at
   pub less : differing ≤ at
-  pub ends : resumed compared differing at (panelOf left right ram) (recordsIn (drop (4 * at) trace) (length trace / 4 - at)) answers ≡ whole
+  pub ends : resumed compared differing at (panelIn chips ram) (recordsIn (drop (4 * at) trace) (length trace / 4 - at)) answers ≡ whole
+
+-- a record given to its chip: the answer that the panel gives, the panel after it, and records that pass again
+record Turned (p : Panel) (bus : Record) (a : BareAnswer) (chips ram : List ℕ) : Type 0 where
+  number : a .number ≡ outcomeOf p bus .answer .number
+  kind : a .kind ≡ outcomeOf p bus .answer .kind
+  byte : a .byte ≡ outcomeOf p bus .answer .byte
+  panel : panelIn chips ram ≡ stepped p bus
+  fit : RecordsFit chips ram
 
 -- a record is left: it is the front of the bytes that are left
 next-record : (bytes : List ℕ) (n : ℕ) → 0 < n → recordsIn bytes n ≡ front bytes ∷ recordsIn (drop 4 bytes) (n - 1)
@@ -43,9 +52,9 @@ left-records trace at h =
     rw (next-record (drop (4 * at) trace) (length trace / 4 - at) (omega arith), e1, drop-drop 4 (4 * at) trace, e2)
 
 -- before the first record
-pub started : (trace answers : List ℕ) (left right : Chip) (ram : List ℕ) → Fits left right ram → length trace ≤ 65536 → 2 * (length trace / 4) ≤ length answers
-    → Upto trace (length answers) (ended (runOf (panelOf left right ram) (wholeRecords trace)) (wholeRecords trace) answers) left right ram answers 0 0 0
-started trace answers left right ram fits size enough =
+pub started : (trace answers chips ram : List ℕ) → RecordsFit chips ram → length trace ≤ 65536 → 2 * (length trace / 4) ≤ length answers
+    → Upto trace (length answers) (ended (runOf (panelIn chips ram) (wholeRecords trace)) (wholeRecords trace) answers) chips ram answers 0 0 0
+started trace answers chips ram fits size enough =
     let all : length trace / 4 - 0 ≡ length trace / 4 = omega arith in
     record {
       size = size;
@@ -55,47 +64,66 @@ started trace answers left right ram fits size enough =
       buffer = refl;
       fewer = omega arith;
       less = omega arith;
-      ends = rw all (begun (panelOf left right ram) (wholeRecords trace) answers);
+      ends = rw all (begun (panelIn chips ram) (wholeRecords trace) answers);
     }
 
 pub at-most-one : (t : Bool) → if t 1 0 ≤ 1
 at-most-one true = omega arith
 at-most-one false = omega arith
 
-module _ (trace : List ℕ) (space : ℕ) (whole : Outcome) (left right : Chip) (ram answers : List ℕ) (compared differing at : ℕ) (upto : Upto trace space whole left right ram answers compared differing at) where
-  pub finished : length trace / 4 ≤ at → stoppedAt 0 compared differing at (panelOf left right ram) answers ≡ whole
+module _ {trace : List ℕ} {space : ℕ} {whole : Outcome} {chips ram answers : List ℕ} {compared differing at : ℕ} (upto : Upto trace space whole chips ram answers compared differing at) where
+  pub finished : length trace / 4 ≤ at → stoppedAt 0 compared differing at (panelIn chips ram) answers ≡ whole
   unfolding recordsIn
   finished h =
       let e : length trace / 4 - at ≡ 0 = omega arith in
-      sym (no-more compared differing at (panelOf left right ram) answers) ∙ (rw e at (upto .ends))
+      sym (no-more compared differing at (panelIn chips ram) answers) ∙ (rw e at (upto .ends))
 
-  module _ (more : at < length trace / 4) (bus : Record) (read : bus ≡ front (take (length trace - 4 * at) (drop (4 * at) trace))) (t : Turn) (after : List ℕ) (turn : Turned (panelOf left right ram) bus t after) where
+  -- a record is left, read as a part of the trace, and given to its chip
+  module _ (more : at < length trace / 4) (bus : Record) (read : bus ≡ front (take (length trace - 4 * at) (drop (4 * at) trace)))
+      (a : BareAnswer) (chips′ ram′ : List ℕ) (step : acted a chips′ ram′ ≡ stepRecords bus chips ram) where
     here : bus ≡ front (drop (4 * at) trace)
     here = read ∙ ap front (rest trace (4 * at))
 
-    split : resumed compared differing at (panelOf left right ram) (bus ∷ recordsIn (drop (4 * (at + 1)) trace) (length trace / 4 - (at + 1))) answers ≡ whole
+    split : resumed compared differing at (panelIn chips ram) (bus ∷ recordsIn (drop (4 * (at + 1)) trace) (length trace / 4 - (at + 1))) answers ≡ whole
     split = rw (here, ← left-records trace at more) (upto .ends)
 
-    nonzero : (t .number ≡ 0 → ⊥) → outcomeOf (panelOf left right ram) bus .answer .number ≡ 0 → ⊥
-    nonzero h e = h (turn .number ∙ e)
+    on-panel : Turned (panelIn chips ram) bus a chips′ ram′
+    on-panel =
+        let law = every-record-step bus chips ram (upto .fits) in
+        let number = ap (λ (o : Acted). o .answer .number) step in
+        let kind = ap (λ (o : Acted). o .answer .kind) step in
+        let byte = ap (λ (o : Acted). o .answer .byte) step in
+        record {
+          number = number ∙ law .number;
+          kind = kind ∙ law .kind;
+          byte = byte ∙ law .byte;
+          panel = ap (λ (o : Acted). panelIn (o .chips) (o .ram)) step ∙ law .panel;
+          fit = rw (← step) at (law .fit);
+        }
 
-    pub refused-here : (t .number ≡ 0 → ⊥) → stoppedAt (t .number) compared differing at (panelOf (t .left) (t .right) after) answers ≡ whole
+    nonzero : (a .number ≡ 0 → ⊥) → outcomeOf (panelIn chips ram) bus .answer .number ≡ 0 → ⊥
+    nonzero h e = h (on-panel .number ∙ e)
+
+    pub fits-again : RecordsFit chips′ ram′
+    fits-again = on-panel .fit
+
+    pub refused-here : (a .number ≡ 0 → ⊥) → stoppedAt (a .number) compared differing at (panelIn chips′ ram′) answers ≡ whole
     refused-here h =
-        rw (turn .number, turn .panel, refused-record (panelOf left right ram) bus (nonzero h))
-        (sym (refused-turn compared differing at (panelOf left right ram) answers bus (recordsIn (drop (4 * (at + 1)) trace) (length trace / 4 - (at + 1))) (nonzero h)) ∙ split)
+        rw (on-panel .number, on-panel .panel, refused-record (panelIn chips ram) bus (nonzero h))
+        (sym (refused-turn compared differing at (panelIn chips ram) answers bus _ (nonzero h)) ∙ split)
 
-    pub accepted-here : t .number ≡ 0 → (one other : ℕ) → one ≡ if (isCompared (t .kind)) 1 0 → other ≡ if (isCompared (t .kind) && not (eqb (t .byte) (bus .byte))) 1 0
-        → Upto trace space whole (t .left) (t .right) after (set (set answers (2 * at) (t .kind)) (2 * at + 1) (t .byte)) (compared + one) (differing + other) (at + 1)
+    pub accepted-here : a .number ≡ 0 → (one other : ℕ) → one ≡ if (isCompared (a .kind)) 1 0 → other ≡ if (isCompared (a .kind) && not (eqb (a .byte) (bus .byte))) 1 0
+        → Upto trace space whole chips′ ram′ (set (set answers (2 * at) (a .kind)) (2 * at + 1) (a .byte)) (compared + one) (differing + other) (at + 1)
     accepted-here h one other one-is other-is =
         record {
           size = upto .size;
           enough = upto .enough;
           within = omega arith;
-          fits = turned-fits (panelOf left right ram) bus t after (upto .fits) turn;
+          fits = on-panel .fit;
           buffer = simp length-set (upto .buffer);
-          fewer = omega (arith, at-most-one (isCompared (t .kind)));
-          less = omega (arith, at-most-one (isCompared (t .kind) && not (eqb (t .byte) (bus .byte))));
+          fewer = omega (arith, at-most-one (isCompared (a .kind)));
+          less = omega (arith, at-most-one (isCompared (a .kind) && not (eqb (a .byte) (bus .byte))));
           ends =
-              rw (one-is, other-is, turn .panel, turn .kind, turn .byte)
-              (sym (accepted-turn compared differing at (panelOf left right ram) answers bus (recordsIn (drop (4 * (at + 1)) trace) (length trace / 4 - (at + 1))) (sym (turn .number) ∙ h) (omega (arith, upto .buffer))) ∙ split);
+              rw (one-is, other-is, on-panel .panel, on-panel .kind, on-panel .byte)
+              (sym (accepted-turn compared differing at (panelIn chips ram) answers bus _ (sym (on-panel .number) ∙ h) (omega (arith, upto .buffer))) ∙ split);
         }

@@ -3,13 +3,14 @@ use Prim.Native.Nat.{ℕ, _+_, _*_, _/_, _%_}
 use mathlib.Core.Bool.{Bool, not, _&&_, _||_}
 use mathlib.Core.List.{List, [], _∷_, _++_}
 use lib.Dec.{ltb, eqb}
-use lib.ListN.{length, drop}
+use lib.ListN.{length, take, drop}
 use Rattle.sed1520.specs.Choice.{if}
 use Rattle.sed1520.specs.Chip.{inRange}
-use Rattle.sed1520.specs.Panel.{Panel, outcomeOf, stepped}
+use Rattle.sed1520.specs.ChipRecord.{recordRight, chipsBytes, panelIn}
+use Rattle.sed1520.specs.Panel.{Panel, panelOf, outcomeOf, stepped}
 use Rattle.sed1520.specs.declared.bus.Record.{Record}
-use Rattle.sed1520.specs.declared.registers.Chip.{Chip}
 use Rattle.sed1520.specs.Records.{wholeRecords}
+use Rattle.trace.specs.declared.Ran.{Ran}
 use Rattle.trace.specs.declared.Replayed.{Replayed}
 
 -- what an accepted record is answered, by kind: 0 a write, with byte 0; 1 a data read with a fresh latch, 2 one with a stale latch, 3 status, with the byte read
@@ -93,15 +94,45 @@ replayOf p trace answers =
     (if (not (eqb (length trace % 4) 0)) (refusedAt 3 (length trace / 4) p answers)
     (ended (runOf p (wholeRecords trace)) (wholeRecords trace) answers))))
 
--- two chips by value and the lent image are a panel
-abbrev pub panelOf : Chip → Chip → List ℕ → Panel
-panelOf left right ram = record { left = left; right = right; ram = ram }
-
 -- what the function gives back and leaves in what it was lent, as an outcome
 abbrev pub outcome : Replayed → List ℕ → List ℕ → Outcome
 outcome r ram answers =
-    record { number = r .number; place = r .place; compared = r .compared; differing = r .differing; panel = panelOf (r .left) (r .right) ram; answers = answers }
+    record {
+      number = r .number;
+      place = r .place;
+      compared = r .compared;
+      differing = r .differing;
+      panel = panelOf (r .left) (r .right) ram;
+      answers = answers;
+    }
+
+-- what a replay over chip records gives back, and what it leaves in the records, the image and the answer buffer
+pub record InPlace : Type 0 where
+  pub answer : Ran
+  pub chips : List ℕ
+  pub ram : List ℕ
+  pub answers : List ℕ
+
+-- all of it as one value
+abbrev pub inPlace : Ran → List ℕ → List ℕ → List ℕ → InPlace
+inPlace r chips ram answers = record { answer = r; chips = chips; ram = ram; answers = answers }
 
 -- a refusal before the first record
-abbrev pub refusal : ℕ → ℕ → Chip → Chip → Replayed
-refusal n at left right = record { number = n; place = at; compared = 0; differing = 0; left = left; right = right }
+abbrev pub refusal : ℕ → ℕ → Ran
+refusal n at = record { number = n; place = at; compared = 0; differing = 0 }
+
+-- two records that number 2 lets pass become those of a panel's chips; any others stay
+abbrev pub rewritten : List ℕ → Panel → List ℕ
+rewritten chips p = if (recordRight (take 12 chips) && recordRight (drop 12 chips)) (chipsBytes (p .left) (p .right)) chips
+
+-- an outcome over chip records
+abbrev pub settled : List ℕ → Outcome → InPlace
+settled chips o =
+    inPlace (record { number = o .number; place = o .place; compared = o .compared; differing = o .differing })
+    (rewritten chips (o .panel)) (o .panel .ram) (o .answers)
+
+-- number 1 for chips that are not 24 bytes, then the replay on the panel that the records are
+unfoldable pub replayInPlace : List ℕ → List ℕ → List ℕ → List ℕ → InPlace
+replayInPlace chips ram trace answers =
+    if (not (eqb (length chips) 24)) (inPlace (refusal 1 0) chips ram answers)
+    (settled chips (replayOf (panelIn chips ram) trace answers))

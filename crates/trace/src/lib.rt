@@ -5,11 +5,17 @@ ghost use mathlib.Core.Bool.{_&&_, not};
 ghost use lib.Dec.{eqb};
 ghost use lib.ListN.{length};
 ghost use Rattle.sed1520.specs.Choice.{if};
+ghost use Rattle.sed1520.specs.ChipRecord.{panelIn};
+ghost use Rattle.sed1520.specs.Panel.{panelOf};
+ghost use Rattle.sed1520.specs.Promises.{RecordsFit};
 ghost use Rattle.sed1520.specs.Records.{front, wholeRecords};
-ghost use Rattle.trace.specs.Replay.{isCompared, panelOf, refusal, outcome, runOf, ended, sizesWrong, replayOf};
-ghost use Rattle.trace.specs.Turns.{Fits, Turned};
+ghost use Rattle.trace.specs.Replay.{isCompared, refusal, outcome, runOf, ended, sizesWrong, replayOf, inPlace, settled, replayInPlace};
 use sed1520::bus::Record;
-use sed1520::bus::step;
+use sed1520::chip_record::CHIPS_BYTES;
+use sed1520::chip_record::chips_bytes;
+use sed1520::chip_record::chips_in;
+use sed1520::record_step::IMAGE_BYTES;
+use sed1520::record_step::step_of_tested_records;
 use sed1520::registers::Chip;
 
 // The most bytes that a trace may have.
@@ -20,12 +26,6 @@ pub const RECORD_BYTES: usize = 4;
 
 // The bytes of its answer.
 pub const ANSWER_BYTES: usize = 2;
-
-// The RAM image of both chips.
-pub const IMAGE_BYTES: usize = 640;
-
-// A chip's part of the image.
-const HALF_BYTES: usize = 320;
 
 // What a replay gives back beside what it was lent: the number and its place, how many reads were compared with the
 // trace and how many of these differ, and both chips.
@@ -38,13 +38,12 @@ pub struct Replayed {
     pub right: Chip,
 }
 
-// One record's answer, and both chips after it.
-struct Turn {
-    number: u8,
-    kind: u8,
-    byte: u8,
-    left: Chip,
-    right: Chip,
+// What a replay over chip records gives back beside what it was lent.
+pub struct Ran {
+    pub number: u8,
+    pub place: u64,
+    pub compared: u64,
+    pub differing: u64,
 }
 
 // The record in the first four bytes.
@@ -78,49 +77,14 @@ fn differs(kind: u8, byte: u8, recorded: u8) -> u64
     if byte == recorded { 0 } else { compares(kind) }
 }
 
-// One record, given to the chip that it names with that chip's part of the image. Neither chip is tested again.
-fn take_turn(bus: Record, left: Chip, right: Chip, ram: &mut [u8]) -> Turn
-    requires { ⌜ Fits left right (now ram) ⌝ }
-    ensures { λ r. ⌜ Turned (panelOf left right (now (ram .entry))) bus r (now (ram .exit)) ⌝ }
-{
-    let mut chip = right;
-    let mut start = HALF_BYTES;
-    if bus.chip == 0 {
-        chip = left;
-        start = 0;
-    }
-    let answer = step(bus, chip, &mut ram[start..start + HALF_BYTES]);
-    let next = answer.chip;
-    if bus.chip == 0 {
-        return Turn {
-            number: answer.number,
-            kind: answer.kind,
-            byte: answer.byte,
-            left: next,
-            right,
-        };
-    }
-    Turn {
-        number: answer.number,
-        kind: answer.kind,
-        byte: answer.byte,
-        left,
-        right: next,
-    }
-}
-
-// The records one after the other, up to the first that is refused.
-fn run(
-    mut left: Chip,
-    mut right: Chip,
-    ram: &mut [u8],
-    trace: &[u8],
-    answers: &mut [u8],
-) -> Replayed
-    requires { ⌜ Fits left right (now ram) ⌝ }
+// The records one after the other on two chip records that number 2 lets pass, up to the first that is refused.
+fn run(chips: &mut [u8], ram: &mut [u8], trace: &[u8], answers: &mut [u8]) -> Ran
+    requires { ⌜ RecordsFit (now chips) (now ram) ⌝ }
     requires { ⌜ 2 * (length (now trace) / 4) ≤ length (now answers) ⌝ }
     requires { ⌜ length (now trace) ≤ 65536 ⌝ }
-    ensures { λ r. ⌜ outcome r (now (ram .exit)) (now (answers .exit)) ≡ ended (runOf (panelOf left right (now (ram .entry))) (wholeRecords (now (trace .entry)))) (wholeRecords (now (trace .entry))) (now (answers .entry)) ⌝ }
+    ensures { λ r. ⌜ inPlace r (now (chips .exit)) (now (ram .exit)) (now (answers .exit))
+        ≡ settled (now (chips .entry))
+        (ended (runOf (panelIn (now (chips .entry)) (now (ram .entry))) (wholeRecords (now (trace .entry)))) (wholeRecords (now (trace .entry))) (now (answers .entry))) ⌝ }
 {
     let mut compared: u64 = 0;
     let mut differing: u64 = 0;
@@ -128,71 +92,90 @@ fn run(
     let count = trace.len() / RECORD_BYTES;
     while at < count {
         let bus = record_in(&trace[RECORD_BYTES * at..]);
-        let next = take_turn(bus, left, right, ram);
-        left = next.left;
-        right = next.right;
-        if next.number != 0 {
-            return Replayed {
-                number: next.number,
+        let answer = step_of_tested_records(bus, chips, ram);
+        if answer.number != 0 {
+            return Ran {
+                number: answer.number,
                 place: at as u64,
                 compared,
                 differing,
-                left,
-                right,
             };
         }
-        answers[ANSWER_BYTES * at] = next.kind;
-        answers[ANSWER_BYTES * at + 1] = next.byte;
-        compared = compared + compares(next.kind);
-        differing = differing + differs(next.kind, next.byte, bus.byte);
+        answers[ANSWER_BYTES * at] = answer.kind;
+        answers[ANSWER_BYTES * at + 1] = answer.byte;
+        compared = compared + compares(answer.kind);
+        differing = differing + differs(answer.kind, answer.byte, bus.byte);
         at = at + 1;
     }
-    Replayed {
+    Ran {
         number: 0,
         place: at as u64,
         compared,
         differing,
-        left,
-        right,
     }
 }
 
 // Refused before the first record: nothing is changed and nothing compared.
-fn refused(number: u8, place: u64, left: Chip, right: Chip) -> Replayed
-    ensures { λ r. ⌜ r ≡ refusal number place left right ⌝ }
+fn refused(number: u8, place: u64) -> Ran
+    ensures { λ r. ⌜ r ≡ refusal number place ⌝ }
 {
-    Replayed {
+    Ran {
         number,
         place,
         compared: 0,
         differing: 0,
-        left,
-        right,
     }
 }
 
-// The replay of a trace on two chips and the image of both, two answer bytes for each record; refuses by number what
-// does not fit.
-pub fn replay(left: Chip, right: Chip, ram: &mut [u8], trace: &[u8], answers: &mut [u8]) -> Replayed
-    ensures { λ r. ⌜ outcome r (now (ram .exit)) (now (answers .exit)) ≡ replayOf (panelOf left right (now (ram .entry))) (now (trace .entry)) (now (answers .entry)) ⌝ }
+// The replay of a trace on two chip records, which are rewritten, and the image of both chips, two answer bytes for each record; refuses by number
+// what does not fit.
+pub fn replay_in_place(chips: &mut [u8], ram: &mut [u8], trace: &[u8], answers: &mut [u8]) -> Ran
+    ensures { λ r. ⌜ inPlace r (now (chips .exit)) (now (ram .exit)) (now (answers .exit))
+        ≡ replayInPlace (now (chips .entry)) (now (ram .entry)) (now (trace .entry)) (now (answers .entry)) ⌝ }
 {
+    if chips.len() != CHIPS_BYTES {
+        return refused(1, 0);
+    }
     if sizes_wrong(trace.len(), ram.len(), answers.len()) {
-        return refused(1, 0, left, right);
+        return refused(1, 0);
     }
+    let both = chips_in(chips);
+    let left = both.left;
     if !left.in_range() {
-        return refused(2, 0, left, right);
+        return refused(2, 0);
     }
+    let right = both.right;
     if !right.in_range() {
-        return refused(2, 1, left, right);
+        return refused(2, 1);
     }
     if trace.len() % RECORD_BYTES != 0 {
-        return refused(3, (trace.len() / RECORD_BYTES) as u64, left, right);
+        return refused(3, (trace.len() / RECORD_BYTES) as u64);
     }
-    run(left, right, ram, trace, answers)
+    run(chips, ram, trace, answers)
+}
+
+// The replay of a trace on two chips by value and the image of both, as over their records.
+pub fn replay(left: Chip, right: Chip, ram: &mut [u8], trace: &[u8], answers: &mut [u8]) -> Replayed
+    ensures { λ r. ⌜ outcome r (now (ram .exit)) (now (answers .exit))
+        ≡ replayOf (panelOf left right (now (ram .entry))) (now (trace .entry)) (now (answers .entry)) ⌝ }
+{
+    let mut chips = chips_bytes(left, right);
+    let ran = replay_in_place(&mut chips, ram, trace, answers);
+    let both = chips_in(&chips);
+    let next_left = both.left;
+    let next_right = both.right;
+    Replayed {
+        number: ran.number,
+        place: ran.place,
+        compared: ran.compared,
+        differing: ran.differing,
+        left: next_left,
+        right: next_right,
+    }
 }
 
 // Number 1: a trace that is too long, an image that is not 640 bytes, or fewer than two answer bytes for each whole record.
-pub fn sizes_wrong(trace: usize, ram: usize, answers: usize) -> bool
+fn sizes_wrong(trace: usize, ram: usize, answers: usize) -> bool
     ensures { λ r. ⌜ r ≡ sizesWrong trace ram answers ⌝ }
 {
     if TRACE_BYTES < trace {

@@ -1,0 +1,38 @@
+-- `sed1520::record_step::write_command` meets its contract: the whole record is stored, or nothing where the command is refused.
+use mathlib.Core.Path.{ap, _∙_}
+use borrow.Author.Tests.{eq-eqb, ne-eqb}
+use Rattle.sed1520.specs.Cycle.{commandWrite}
+use Rattle.sed1520.specs.RecordStep.{bare}
+use borrow.Author.Needs.{needs}
+use Rattle.sed1520.proofs.record_step.write_command.Statement.{statement}
+use Rattle.sed1520.proofs.record_step.write_command.Tie as tie
+
+returns : tie.Need-returns
+returns c =
+    let done = c .before .before .before in
+    let read = done .before in
+    let told = done .command .ensures ∙ ap (commandWrite (read .before .before .before .args .byte)) (read .registers-in .ensures) in
+    (c .bare .ensures ∙ ap bare told, rw (← told, ne-eqb (done .command .result .number) 0 (c .before .if1 .taken)))
+
+returns-2 : tie.Need-returns-2
+returns-2 c =
+    let stored = c .before .before .before in
+    let passed = stored .before .before .before in
+    let done = passed .before .before in
+    let read = done .before in
+    let told = done .command .ensures ∙ ap (commandWrite (read .before .before .before .args .byte)) (read .registers-in .ensures) in
+    (c .bare2 .ensures ∙ ap bare told, rw (← told, eq-eqb (done .command .result .number) 0 (passed .if1 .left)) (stored .chip-out .ensures))
+
+pub write-command-spec : {M : Type 1} → statement M
+write-command-spec =
+    tie.close
+    (tie.spec
+    (λ c κs. search needs)
+    (λ c κs. search needs)
+    (λ c κs. search needs)
+    (λ c. search needs)
+    returns
+    (λ c κs. search needs)
+    (λ c κs. search needs)
+    (λ c. search needs)
+    returns-2)

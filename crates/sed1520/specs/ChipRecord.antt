@@ -1,0 +1,92 @@
+-- A chip as the C side has it: a record of 12 bytes, no header. Display, static, duty (1 = 1/32), ADC (1 = reverse), read-modify-write,
+-- page, start line, column, saved column, the read latch's mark (1 = fresh) and byte (document 01: holder mark, holder byte), 0.
+use Prim.Native.Nat.{ℕ}
+use mathlib.Core.Bool.{Bool, _&&_}
+use mathlib.Core.List.{List, [], _∷_, _++_}
+use lib.Dec.{ltb, eqb}
+use lib.ListN.{length, getD, take, drop}
+use Rattle.sed1520.specs.Choice.{if}
+use Rattle.sed1520.specs.Chip.{inRange, fresh, latched, withPage}
+use Rattle.sed1520.specs.Panel.{Panel, panelOf}
+use Rattle.sed1520.specs.declared.registers.Chip.{Chip}
+use Rattle.sed1520.specs.declared.registers.ReadLatch.{ReadLatch}
+use Rattle.sed1520.specs.declared.registers.ReadLatch.the-variants.{Fresh, Stale}
+use Rattle.sed1520.specs.declared.chip_record.Chips.{Chips}
+
+-- a flag as a byte
+abbrev pub bit : Bool → ℕ
+bit b = if b 1 0
+
+-- a byte as a flag
+abbrev pub flag : ℕ → Bool
+flag n = eqb n 1
+
+-- 1 for a fresh latch
+abbrev pub mark : ReadLatch → ℕ
+mark (Fresh b) = 1
+mark (Stale b) = 0
+
+-- the latch of a mark and a byte
+abbrev pub latchOf : ℕ → ℕ → ReadLatch
+latchOf m b = if (flag m) (Fresh b) (Stale b)
+
+-- the 12 bytes of a chip
+unfoldable pub chipBytes : Chip → List ℕ
+chipBytes c =
+    bit (c .«display_on») ∷ bit (c .«static_on») ∷ bit (c .«duty_32») ∷ bit (c .reverse) ∷ bit (c .modify)
+    ∷ c .page ∷ c .«start_line» ∷ c .column ∷ c .«saved_column» ∷ mark (c .latch) ∷ latched (c .latch) ∷ 0 ∷ []
+
+-- the records of both chips, left before right
+abbrev pub chipsBytes : Chip → Chip → List ℕ
+chipsBytes left right = chipBytes left ++ chipBytes right
+
+-- the registers that 12 bytes say; a flag or a mark that is not 1 is taken for 0, and the last byte is passed over
+unfoldable pub registersIn : List ℕ → Chip
+registersIn b =
+    record {
+      «display_on» = flag (getD b 0 0);
+      «static_on» = flag (getD b 1 0);
+      «duty_32» = flag (getD b 2 0);
+      reverse = flag (getD b 3 0);
+      modify = flag (getD b 4 0);
+      page = getD b 5 0;
+      «start_line» = getD b 6 0;
+      column = getD b 7 0;
+      «saved_column» = getD b 8 0;
+      latch = latchOf (getD b 9 0) (getD b 10 0);
+    }
+
+-- the flags and the mark are 0 or 1, the last byte is 0
+unfoldable pub marksRight : List ℕ → Bool
+marksRight b =
+    ltb (getD b 0 0) 2
+    && (ltb (getD b 1 0) 2
+    && (ltb (getD b 2 0) 2
+    && (ltb (getD b 3 0) 2
+    && (ltb (getD b 4 0) 2
+    && (ltb (getD b 9 0) 2
+    && eqb (getD b 11 0) 0)))))
+
+-- number 2 lets the record pass
+abbrev pub recordRight : List ℕ → Bool
+recordRight b = marksRight b && inRange (registersIn b)
+
+-- a chip that number 2 does not let pass, with a page that is not there
+abbrev pub noChip : Chip
+noChip = withPage 4 fresh
+
+-- the chip of a record; one that number 2 does not let pass where a flag, the mark or the last byte is wrong
+unfoldable pub chipIn : List ℕ → Chip
+chipIn b = if (marksRight b) (registersIn b) noChip
+
+-- two chips together
+abbrev pub chipsOf : Chip → Chip → Chips
+chipsOf left right = record { left = left; right = right }
+
+-- the chips of two records; from other than 24 bytes, chips that number 2 does not let pass
+unfoldable pub chipsIn : List ℕ → Chips
+chipsIn chips = if (eqb (length chips) 24) (chipsOf (chipIn (take 12 chips)) (chipIn (drop 12 chips))) (chipsOf noChip noChip)
+
+-- the panel of two records and an image
+abbrev pub panelIn : List ℕ → List ℕ → Panel
+panelIn chips ram = panelOf (chipsIn chips .left) (chipsIn chips .right) ram

@@ -1,0 +1,126 @@
+// A bus record given to the chip record that it names: the chip's own actions, each storing only the bytes that it changes.
+ghost use Prim.Native.Nat.{_≤_};
+ghost use mathlib.Core.Path.{_≡_};
+ghost use lib.ListN.{length};
+ghost use Rattle.sed1520.specs.ChipRecord.{registersIn};
+ghost use Rattle.sed1520.specs.Cycle.{commandWrite, dataWrite, dataRead};
+ghost use Rattle.sed1520.specs.RecordStep.{bare, bareRefusal, acted, readBytes, commandBytes, written, actionOn, stepRecords};
+use crate::actions::Answer;
+use crate::bus::Record;
+use crate::chip_record::CHIPS_BYTES;
+use crate::chip_record::chip_out;
+use crate::chip_record::mark;
+use crate::chip_record::registers_in;
+use crate::registers::Chip;
+
+// The RAM image of both chips.
+pub const IMAGE_BYTES: usize = 640;
+
+// What a step gives back beside what it was lent: the number, and the answer's kind and byte.
+pub struct BareAnswer {
+    pub number: u8,
+    pub kind: u8,
+    pub byte: u8,
+}
+
+// An answer without its chip.
+fn bare(answer: Answer) -> BareAnswer
+    ensures { λ r. ⌜ r ≡ bare answer ⌝ }
+{
+    BareAnswer {
+        number: answer.number,
+        kind: answer.kind,
+        byte: answer.byte,
+    }
+}
+
+// Refused: kind 0, byte 0.
+fn refused(number: u8) -> BareAnswer
+    ensures { λ r. ⌜ r ≡ bareRefusal number ⌝ }
+{
+    BareAnswer {
+        number,
+        kind: 0,
+        byte: 0,
+    }
+}
+
+// A data write: the column alone can change.
+fn write_data(bytes: &mut [u8], byte: u8, ram: &mut [u8]) -> BareAnswer
+    requires { ⌜ length (now bytes) ≡ 12 ⌝ }
+    ensures { λ r. ⌜ acted r (now (bytes .exit)) (now (ram .exit))
+        ≡ written (now (bytes .entry)) (dataWrite byte (registersIn (now (bytes .entry))) (now (ram .entry))) ⌝ }
+{
+    let answer = registers_in(bytes).data_write(byte, ram);
+    let next = answer.chip;
+    bytes[7] = next.column;
+    bare(answer)
+}
+
+// A data read: the column and the read latch.
+fn read_data(bytes: &mut [u8], ram: &[u8]) -> BareAnswer
+    requires { ⌜ length (now bytes) ≡ 12 ⌝ }
+    ensures answer { λ r. ⌜ r ≡ bare (dataRead (registersIn (now (bytes .entry))) (now (ram .entry))) ⌝ }
+    ensures bytes { λ _. ⌜ now (bytes .exit) ≡ readBytes (now (bytes .entry)) (dataRead (registersIn (now (bytes .entry))) (now (ram .entry)) .chip) ⌝ }
+{
+    let answer = registers_in(bytes).data_read(ram);
+    let after = answer.chip;
+    let latch = after.latch;
+    bytes[7] = after.column;
+    bytes[9] = mark(latch);
+    bytes[10] = latch.byte();
+    bare(answer)
+}
+
+// A command: any register.
+fn write_command(bytes: &mut [u8], byte: u8) -> BareAnswer
+    requires { ⌜ length (now bytes) ≡ 12 ⌝ }
+    ensures answer { λ r. ⌜ r ≡ bare (commandWrite byte (registersIn (now (bytes .entry)))) ⌝ }
+    ensures bytes { λ _. ⌜ now (bytes .exit) ≡ commandBytes (now (bytes .entry)) (commandWrite byte (registersIn (now (bytes .entry)))) ⌝ }
+{
+    let answer = registers_in(bytes).command(byte);
+    if answer.number != 0 {
+        return bare(answer);
+    }
+    let next = answer.chip;
+    chip_out(next, bytes);
+    bare(answer)
+}
+
+// The action that the control lines ask for, on one chip's record and its part of the image.
+fn act(lines: u8, byte: u8, bytes: &mut [u8], ram: &mut [u8]) -> BareAnswer
+    requires { ⌜ length (now bytes) ≡ 12 ⌝ }
+    ensures { λ r. ⌜ acted r (now (bytes .exit)) (now (ram .exit)) ≡ actionOn lines byte (now (bytes .entry)) (now (ram .entry)) ⌝ }
+{
+    match lines {
+        3 => write_data(bytes, byte, ram),
+        5 => read_data(bytes, ram),
+        4 => bare(registers_in(bytes).status()),
+        _ => write_command(bytes, byte),
+    }
+}
+
+// Gives a bus record to the chip record that it names, with that chip's part of the image. THIS IS NO CYCLE: it refuses wrong lengths by number 1 and
+// wrong bus records by numbers 4 to 8, but it does not test the chip records (number 2). It is for a caller that has tested both once, as the replay does.
+pub fn step_of_tested_records(bus: Record, chips: &mut [u8], ram: &mut [u8]) -> BareAnswer
+    ensures { λ r. ⌜ acted r (now (chips .exit)) (now (ram .exit)) ≡ stepRecords bus (now (chips .entry)) (now (ram .entry)) ⌝ }
+{
+    if chips.len() != CHIPS_BYTES {
+        return refused(1);
+    }
+    if ram.len() != IMAGE_BYTES {
+        return refused(1);
+    }
+    let number = bus.refusal();
+    if number != 0 {
+        return refused(number);
+    }
+    let from = 12 * (bus.chip as usize);
+    let start = Chip::RAM_WIDTH * (bus.chip as usize);
+    act(
+        bus.lines,
+        bus.byte,
+        &mut chips[from..from + 12],
+        &mut ram[start..start + Chip::RAM_WIDTH],
+    )
+}

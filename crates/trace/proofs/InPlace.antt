@@ -1,0 +1,98 @@
+-- A replay over chip records: where it refuses, the records stay; else they are those of the panel's chips.
+use Prim.Native.Nat.{ℕ, _/_, _%_}
+use mathlib.Core.Path.{_≡_, refl, sym, ap, _∙_}
+use mathlib.Core.Bool.{Bool, true, false, not, _&&_, true≢false}
+use mathlib.Core.List.{List}
+use lib.Dec.{eqb}
+use lib.ListN.{length, take, drop}
+use borrow.Author.Tests.{eq-eqb, ne-eqb, not-false}
+use Rattle.sed1520.specs.Choice.{if}
+use Rattle.sed1520.specs.Chip.{inRange}
+use Rattle.sed1520.specs.ChipRecord.{recordRight, chipIn, chipsBytes, chipsOf, chipsIn, panelIn}
+use Rattle.sed1520.specs.Panel.{Panel, panelOf}
+use Rattle.sed1520.specs.Promises.{RecordsFit}
+use Rattle.sed1520.specs.declared.registers.Chip.{Chip}
+use Rattle.sed1520.specs.declared.chip_record.Chips.{Chips}
+use Rattle.sed1520.proofs.RecordsUndo.{passes, two-chips, two-length, two-there, two-back, two-pass}
+use Rattle.sed1520.proofs.Tests.{both, when}
+use Rattle.trace.specs.Replay.{Outcome, refusedAt, sizesWrong, replayOf, InPlace, inPlace, refusal, rewritten, settled, replayInPlace}
+use Rattle.trace.proofs.Resumed.{stoppedAt}
+
+-- the records of the panel that they are, are themselves
+pub kept : (chips ram : List ℕ) → length chips ≡ 24 → rewritten chips (panelIn chips ram) ≡ chips
+kept chips ram h =
+    when (λ (l : List ℕ). l ≡ chips) (recordRight (take 12 chips) && recordRight (drop 12 chips))
+    (λ t. let right = both (recordRight (take 12 chips)) _ t in two-back chips h (right .0) (right .1))
+    (λ _. refl)
+
+-- records that passed before and after are those of the panel afterwards
+pub settled-at : (from ram₀ chips ram answers : List ℕ) (n compared differing at : ℕ) (whole : Outcome) → RecordsFit from ram₀ → RecordsFit chips ram
+    → stoppedAt n compared differing at (panelIn chips ram) answers ≡ whole
+    → inPlace (record { number = n; place = at; compared = compared; differing = differing }) chips ram answers ≡ settled from whole
+settled-at from ram₀ chips ram answers n compared differing at whole before after e =
+    rw (← e, before .left, before .right, two-back chips (after .records) (after .left) (after .right))
+
+module _ (chips ram trace answers : List ℕ) where
+  pub chips-refused : (length chips ≡ 24 → ⊥) → replayInPlace chips ram trace answers ≡ inPlace (refusal 1 0) chips ram answers
+  unfolding replayInPlace
+  chips-refused h = rw (ne-eqb (length chips) 24 h)
+
+  module _ (records : length chips ≡ 24) where
+    on-panel : replayInPlace chips ram trace answers ≡ settled chips (replayOf (panelIn chips ram) trace answers)
+    unfolding replayInPlace
+    on-panel = rw (eq-eqb (length chips) 24 records)
+
+    pub as-panel : (o : Outcome) → replayOf (panelIn chips ram) trace answers ≡ o → replayInPlace chips ram trace answers ≡ settled chips o
+    as-panel o e = on-panel ∙ ap (settled chips) e
+
+    pub refused-before : (n at : ℕ) → replayOf (panelIn chips ram) trace answers ≡ refusedAt n at (panelIn chips ram) answers
+        → replayInPlace chips ram trace answers ≡ inPlace (refusal n at) chips ram answers
+    refused-before n at e = as-panel (refusedAt n at (panelIn chips ram) answers) e ∙ rw (kept chips ram records)
+
+-- records whose chips are in range, over the whole image
+pub records-fit : (chips ram : List ℕ) → length chips ≡ 24 → inRange (chipsIn chips .left) ≡ true → inRange (chipsIn chips .right) ≡ true
+    → length ram ≡ 640 → RecordsFit chips ram
+records-fit chips ram h left right image =
+    let l : inRange (chipIn (take 12 chips)) ≡ true = rw (two-chips chips h) at left in
+    let r : inRange (chipIn (drop 12 chips)) ≡ true = rw (two-chips chips h) at right in
+    record { records = h; left = sym (passes (take 12 chips)) ∙ l; right = sym (passes (drop 12 chips)) ∙ r; image = image }
+
+-- a chip out of range: the panel stays
+out-of-range : (p : Panel) (trace answers : List ℕ) → (inRange (p .left) && inRange (p .right)) ≡ false → replayOf p trace answers .panel ≡ p
+unfolding replayOf
+out-of-range p trace answers out =
+    when (λ (o : Outcome). o .panel ≡ p) (sizesWrong (length trace) (length (p .ram)) (length answers)) (λ _. refl)
+    (λ _. when (λ (o : Outcome). o .panel ≡ p) (not (inRange (p .left))) (λ _. refl)
+    (λ l. when (λ (o : Outcome). o .panel ≡ p) (not (inRange (p .right))) (λ _. refl)
+    (λ r. absurd (true≢false (rw (not-false (inRange (p .left)) l, not-false (inRange (p .right)) r) at out)))))
+
+-- a panel read back from the records of two chips, where it is theirs if one of them is out of range
+panel-back : (left right : Chip) (ram : List ℕ) (p : Panel) → ((inRange left && inRange right) ≡ false → p ≡ panelOf left right ram)
+    → panelIn (rewritten (chipsBytes left right) p) (p .ram) ≡ p
+panel-back left right ram p stays =
+    rw (two-pass left right)
+    (when (λ (l : List ℕ). panelIn l (p .ram) ≡ p) (inRange left && inRange right)
+    (λ _. ap (λ (c : Chips). panelOf (c .left) (c .right) (p .ram)) (two-there (p .left) (p .right)))
+    (λ f. let same = stays f in
+    ap (λ (c : Chips). panelOf (c .left) (c .right) (p .ram)) (two-there left right) ∙ ap (λ (q : Panel). panelOf left right (q .ram)) same ∙ sym same))
+
+-- what stands after a replay over records, with the chips read back
+abbrev asOutcome : InPlace → Outcome
+asOutcome i =
+    record {
+      number = i .answer .number;
+      place = i .answer .place;
+      compared = i .answer .compared;
+      differing = i .answer .differing;
+      panel = panelIn (i .chips) (i .ram);
+      answers = i .answers;
+    }
+
+pub by-value : (left right : Chip) (ram trace answers : List ℕ) (i : InPlace) → i ≡ replayInPlace (chipsBytes left right) ram trace answers
+    → asOutcome i ≡ replayOf (panelOf left right ram) trace answers
+by-value left right ram trace answers i e =
+    let whole = replayOf (panelOf left right ram) trace answers in
+    let on-records = on-panel (chipsBytes left right) ram trace answers (two-length left right) in
+    let same = e ∙ (rw (two-there left right) at on-records) in
+    ap asOutcome same
+    ∙ rw (panel-back left right ram (whole .panel) (out-of-range (panelOf left right ram) trace answers))
