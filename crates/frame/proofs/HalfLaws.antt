@@ -1,55 +1,43 @@
 -- The laws of one half.
-use Prim.Native.Nat.{ℕ, zero, suc, _+_, _-_, _*_, _/_, _%_, _<_, _≤_}
+use Prim.Native.Nat.{ℕ, _+_, _*_, _/_, _%_, _<_, _≤_}
 use native.Mathlib.Omega.{arith}
-use mathlib.Core.Path.{_≡_, refl, ap, _∙_}
+use mathlib.Core.Path.{_≡_, refl, _∙_}
 use mathlib.Core.Bool.{Bool, true, false, not, _&&_}
 use mathlib.Core.List.{List}
 use mathlib.Core.Logic.{_⊎_, ⊎-elim}
 use lib.Dec.{leb, eqb}
 use lib.ListN.{length, getD, take, drop}
-use borrow.Author.Tests.{le-leb, lt-leb, lt-ltb, le-ltb, not-false}
+use borrow.Author.Tests.{le-leb, lt-leb, not-false}
 use Rattle.sed1520.specs.Choice.{if}
 use Rattle.sed1520.specs.Memory.{ramIndex}
 use Rattle.sed1520.specs.Panel.{Panel, chipAt, ramAt}
 use Rattle.sed1520.specs.declared.registers.Chip.{Chip}
-use Rattle.frame.specs.Frame.{columnOf, lineBit, pixel, frameByte, byteAt, tabulated, frameOf}
+use Rattle.frame.specs.Frame.{segments, columns, frameBytes, columnOf, lineBit, pixel, frameByte, frameRow, frameOf}
 use Rattle.frame.specs.Laws.{firstColumn, SameShown, TwoPages, HalfLaws}
 use Rattle.frame.proofs.Packing.{packed-same, packed-bits}
+use Rattle.frame.proofs.Halves.{row-length, row-left, row-right}
+use Rattle.frame.proofs.Rows.{row-at, rows-length}
 use Rattle.frame.proofs.Segments.{column-near, segment-hidden, segment-shown}
 
--- the value at a place of a table
-tabulated-at : (f : ℕ → ℕ) (at n i : ℕ) → i < n → getD (tabulated f at n) i 0 ≡ f (at + i)
-unfolding tabulated
-tabulated-at f at zero i h = absurd (omega arith)
-tabulated-at f at (suc n) zero h = let e : at + 0 ≡ at = omega arith in rw e
-tabulated-at f at (suc n) (suc i) h = let e : at + 1 + i ≡ at + suc i = omega arith in tabulated-at f (at + 1) n i (omega arith) ∙ rw e
+module _ (p : Panel) (n r : ℕ) (segment : n < segments) (row : r < 4) where
+  abbrev rows : ℕ → List ℕ
+  rows = frameRow (p .left) (p .right) (p .ram)
 
-tabulated-length : (f : ℕ → ℕ) (at n : ℕ) → length (tabulated f at n) ≡ n
-unfolding tabulated
-tabulated-length f at zero = refl
-tabulated-length f at (suc n) = ap suc (tabulated-length f (at + 1) n)
+  at-half : (left : Bool) → getD (rows r) (if left 0 segments + n) 0 ≡ frameByte (if left (p .left) (p .right)) (if left (take 320 (p .ram)) (drop 320 (p .ram))) n r
+  at-half true = row-left (p .left) (p .right) (p .ram) r n segment
+  at-half false = row-right (p .left) (p .right) (p .ram) r n segment
 
-module _ (p : Panel) (n r : ℕ) (segment : n < 61) (row : r < 4) where
-  at-half : (left : Bool) → byteAt (p .left) (p .right) (p .ram) (if left 0 61 + n + 122 * r) ≡ frameByte (if left (p .left) (p .right)) (if left (take 320 (p .ram)) (drop 320 (p .ram))) n r
-  unfolding byteAt
-  at-half true =
-      let x : (0 + n + 122 * r) % 122 ≡ n = omega arith in
-      let q : (0 + n + 122 * r) / 122 ≡ r = omega arith in
-      rw (x, q, lt-ltb n 61 segment)
-  at-half false =
-      let x : (61 + n + 122 * r) % 122 ≡ 61 + n = omega arith in
-      let q : (61 + n + 122 * r) / 122 ≡ r = omega arith in
-      let s : 61 + n - 61 ≡ n = omega arith in
-      rw (x, q, le-ltb (61 + n) 61 (omega arith), s)
-
-  inside : (left : Bool) → if left 0 61 + n + 122 * r < 488
+  inside : (left : Bool) → if left 0 segments + n < columns
   inside true = omega arith
   inside false = omega arith
 
-  half-place : (chip : ℕ) → getD (frameOf (p .left) (p .right) (p .ram)) (firstColumn chip + n + 122 * r) 0 ≡ frameByte (chipAt p chip) (ramAt p chip) n r
-  half-place chip =
-      let from-zero : 0 + (firstColumn chip + n + 122 * r) ≡ firstColumn chip + n + 122 * r = omega arith in
-      tabulated-at (byteAt (p .left) (p .right) (p .ram)) 0 488 (firstColumn chip + n + 122 * r) (inside (eqb chip 0)) ∙ rw from-zero (at-half (eqb chip 0))
+  half-place : (chip : ℕ) → getD (frameOf (p .left) (p .right) (p .ram)) (firstColumn chip + n + columns * r) 0 ≡ frameByte (chipAt p chip) (ramAt p chip) n r
+  unfolding frameOf
+  half-place chip = row-at rows (row-length (p .left) (p .right) (p .ram)) r (firstColumn chip + n) row (inside (eqb chip 0)) ∙ at-half (eqb chip 0)
+
+whole-frame : (left right : Chip) (ram : List ℕ) → length (frameOf left right ram) ≡ frameBytes
+unfolding frameOf
+whole-frame left right ram = rows-length (frameRow left right ram) (row-length left right ram)
 
 -- equal tests choose equally where their choices are equal
 choice-same : {A : Type 0} (t : Bool) {a b c d : A} → (t ≡ true → a ≡ c) → (t ≡ false → b ≡ d) → if t a b ≡ if t c d
@@ -89,8 +77,8 @@ module _ (c : Chip) (ram : List ℕ) (n r : ℕ) (pages : TwoPages c) where
 pub half-laws : HalfLaws
 half-laws =
     record {
-      near = λ c n h. column-near c n (columnOf c n) h refl;
-      whole = λ left right ram. tabulated-length (byteAt left right ram) 0 488;
+      near = λ c n h. column-near c n (columnOf c n) (omega arith) refl;
+      whole = whole-frame;
       place = λ p chip n r segment row. half-place p n r segment row chip;
       depends = λ c d ram other n r h same. half-depends c d ram other n same r h;
       upper = λ c ram n r pages h. half-upper c ram n r pages h;

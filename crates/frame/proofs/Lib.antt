@@ -2,6 +2,8 @@ pub mod Packing
 pub mod Segments
 pub mod Halves
 pub mod Filled
+pub mod Rows
 pub mod FrameCases
 pub mod HalfLaws
+pub mod Pixels
 pub mod Examples

@@ -13,7 +13,7 @@ use Rattle.frame.specs.Frame.{columnOf, lineBit, pixel, packedPixels, fr
 use Rattle.frame.proofs.Packing.{packed-same}
 
 -- a segment's column is one of the 80
-pub column-near : (c : Chip) (n column : ℕ) → n < 61 → column ≡ columnOf c n → column < 80
+pub column-near : (c : Chip) (n column : ℕ) → n < 80 → column ≡ columnOf c n → column < 80
 column-near c n column h e = rw e (when (λ (k : ℕ). k < 80) (c .reverse) (λ _. omega arith) (λ _. omega arith))
 
 -- eight equal pixels

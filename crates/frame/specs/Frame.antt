@@ -1,8 +1,8 @@
 -- The frame: what the 122 by 32 panel (document 01: the glass) shows, each half driven by its own chip.
 use Prim.Native.Nat.{ℕ, zero, suc, _+_, _-_, _*_, _/_, _%_, _^_}
 use mathlib.Core.Bool.{Bool, not, _&&_, _||_}
-use mathlib.Core.List.{List, [], _∷_}
-use lib.Dec.{ltb, leb, eqb}
+use mathlib.Core.List.{List, [], _∷_, _++_}
+use lib.Dec.{leb, eqb}
 use lib.ListN.{length, getD, take, drop}
 use Rattle.sed1520.specs.Choice.{if}
 use Rattle.sed1520.specs.Chip.{inRange}
@@ -14,9 +14,13 @@ use Rattle.frame.specs.declared.Framed.{Framed}
 abbrev pub segments : ℕ
 segments = 61
 
--- the columns of the panel
+-- the columns of the panel: 122
 abbrev pub columns : ℕ
 columns = segments + segments
+
+-- the bytes of a frame: 488
+abbrev pub frameBytes : ℕ
+frameBytes = 4 * columns
 
 -- the RAM column of a segment
 abbrev pub columnOf : Chip → ℕ → ℕ
@@ -43,21 +47,23 @@ packedPixels f row (suc n) = f row + 2 * packedPixels f (row + 1) n
 unfoldable pub frameByte : Chip → List ℕ → ℕ → ℕ → ℕ
 frameByte c ram n r = packedPixels (pixel c ram n) (8 * r) 8
 
--- byte i = x + 122 r of the frame: column x, rows 8 r to 8 r + 7, by the chip of the half that x lies in
-unfoldable pub byteAt : Chip → Chip → List ℕ → ℕ → ℕ
-byteAt left right ram i =
-    if (ltb (i % columns) segments)
-    (frameByte left (take 320 ram) (i % columns) (i / columns))
-    (frameByte right (drop 320 ram) (i % columns - segments) (i / columns))
-
 -- a function at n numbers from one on
 unfoldable pub tabulated : (ℕ → ℕ) → ℕ → ℕ → List ℕ
 tabulated f i zero = []
 tabulated f i (suc n) = f i ∷ tabulated f (i + 1) n
 
--- the 488 bytes
-abbrev pub frameOf : Chip → Chip → List ℕ → List ℕ
-frameOf left right ram = tabulated (byteAt left right ram) 0 (4 * columns)
+-- a half of a given width in the eight rows from 8 r: the bytes of its segments in rising order
+abbrev pub halfRow : ℕ → Chip → List ℕ → ℕ → List ℕ
+halfRow width c ram r = tabulated (λ n. frameByte c ram n r) 0 width
+
+-- the panel in the eight rows from 8 r: the left chip's half, then the right chip's, each over its own 320 bytes
+unfoldable pub frameRow : Chip → Chip → List ℕ → ℕ → List ℕ
+frameRow left right ram r = halfRow segments left (take 320 ram) r ++ halfRow segments right (drop 320 ram) r
+
+-- the frame: r from 0 to 3, one after the other
+unfoldable pub frameOf : Chip → Chip → List ℕ → List ℕ
+frameOf left right ram =
+    frameRow left right ram 0 ++ (frameRow left right ram 1 ++ (frameRow left right ram 2 ++ frameRow left right ram 3))
 
 -- what the call gives back, and the frame buffer afterwards
 pub record Outcome : Type 0 where
@@ -70,7 +76,7 @@ outcome n at frame = record { answer = record { number = n; place = at }; frame 
 
 -- number 1: an image that is not 640 bytes, a frame that is not 488
 unfoldable pub sizesWrong : ℕ → ℕ → Bool
-sizesWrong ram frame = not (eqb ram 640) || not (eqb frame 488)
+sizesWrong ram frame = not (eqb ram 640) || not (eqb frame frameBytes)
 
 -- numbers 1 and 2 (left before right), then the frame, with its length as place
 unfoldable pub framed : Chip → Chip → List ℕ → List ℕ → Outcome
@@ -78,7 +84,7 @@ framed left right ram frame =
     if (sizesWrong (length ram) (length frame)) (outcome 1 0 frame)
     (if (not (inRange left)) (outcome 2 0 frame)
     (if (not (inRange right)) (outcome 2 1 frame)
-    (outcome 0 488 (frameOf left right ram))))
+    (outcome 0 frameBytes (frameOf left right ram))))
 
 -- what the function gives back with the buffer as it leaves it
 abbrev pub given : Framed → List ℕ → Outcome

@@ -1,5 +1,6 @@
--- The laws by which the layers above know a frame, each about one half: one chip over its 320 bytes, and the 61 columns of the panel that it drives.
-use Prim.Native.Nat.{ℕ, _+_, _*_, _/_, _%_, _<_, _≤_}
+-- The laws of the frame: document 01's sentence on its pixels, and those by which the layers above know it, each about one half: one chip over its 320
+-- bytes, and the 61 columns of the panel that it drives.
+use Prim.Native.Nat.{ℕ, _+_, _*_, _/_, _%_, _^_, _<_, _≤_}
 use mathlib.Core.Path.{_≡_}
 use mathlib.Core.Bool.{Bool, true, false, not, _&&_}
 use mathlib.Core.List.{List}
@@ -10,7 +11,14 @@ use Rattle.sed1520.specs.Choice.{if}
 use Rattle.sed1520.specs.Memory.{ramIndex}
 use Rattle.sed1520.specs.Panel.{Panel, chipAt, ramAt}
 use Rattle.sed1520.specs.declared.registers.Chip.{Chip}
-use Rattle.frame.specs.Frame.{columns, segments, columnOf, frameByte, frameOf}
+use Rattle.frame.specs.Frame.{segments, columns, frameBytes, columnOf, pixel, frameByte, frameOf}
+
+-- byte x + 122 r, bit b, is the pixel at column x and row 8 r + b: that of segment x mod 61 of chip x / 61, over its 320 bytes
+abbrev pub EveryPixelPlaced : Type 0
+EveryPixelPlaced =
+    (p : Panel) (x r b : ℕ) → x < columns → r < 4 → b < 8
+    → getD (frameOf (p .left) (p .right) (p .ram)) (x + columns * r) 0 / 2 ^ b % 2
+    ≡ pixel (chipAt p (x / segments)) (ramAt p (x / segments)) (x % segments) (8 * r + b)
 
 -- the first column of a chip's half
 abbrev pub firstColumn : ℕ → ℕ
@@ -42,9 +50,9 @@ pub record TwoPages (c : Chip) : Type 0 where
 
 -- the RAM column of a segment exists; the frame's length and where a half lies in it; what alone a half depends on; and the two whole pages, dark below
 pub record HalfLaws : Type 0 where
-  pub near : (c : Chip) (n : ℕ) → n < 61 → columnOf c n < 80
-  pub whole : (left right : Chip) (ram : List ℕ) → length (frameOf left right ram) ≡ 488
-  pub place : (p : Panel) (chip n r : ℕ) → n < 61 → r < 4 → getD (frameOf (p .left) (p .right) (p .ram)) (firstColumn chip + n + columns * r) 0 ≡ frameByte (chipAt p chip) (ramAt p chip) n r
+  pub near : (c : Chip) (n : ℕ) → n < segments → columnOf c n < 80
+  pub whole : (left right : Chip) (ram : List ℕ) → length (frameOf left right ram) ≡ frameBytes
+  pub place : (p : Panel) (chip n r : ℕ) → n < segments → r < 4 → getD (frameOf (p .left) (p .right) (p .ram)) (firstColumn chip + n + columns * r) 0 ≡ frameByte (chipAt p chip) (ramAt p chip) n r
   pub depends : (c d : Chip) (ram other : List ℕ) (n r : ℕ) → r < 4 → SameShown c d ram other n → frameByte c ram n r ≡ frameByte d other n r
   pub upper : (c : Chip) (ram : List ℕ) (n r : ℕ) → TwoPages c → r < 2 → frameByte c ram n r ≡ getD ram (ramIndex (c .«start_line» / 8 + r) (columnOf c n)) 0 % 256
   pub lower : (c : Chip) (ram : List ℕ) (n r : ℕ) → TwoPages c → 2 ≤ r → frameByte c ram n r ≡ 0

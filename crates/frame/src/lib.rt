@@ -4,7 +4,8 @@ ghost use mathlib.Core.Path.{_≡_};
 ghost use mathlib.Core.Bool.{_&&_, not};
 ghost use lib.Dec.{leb};
 ghost use lib.ListN.{length};
-ghost use Rattle.frame.specs.Frame.{columnOf, lineBit, packedPixels, frameByte, byteAt, frameOf, sizesWrong, framed, given};
+ghost use Rattle.frame.specs.Frame.{columns, frameBytes, columnOf, lineBit, packedPixels, frameByte, halfRow};
+ghost use Rattle.frame.specs.Frame.{frameRow, frameOf, sizesWrong, framed, given};
 ghost use Rattle.frame.specs.Shown.{Shows, BothShow};
 use sed1520::registers::Chip;
 
@@ -22,7 +23,7 @@ pub struct Framed {
 
 // The RAM column of a segment.
 fn column_of(chip: Chip, n: usize) -> usize
-    requires { ⌜ n < 61 ⌝ }
+    requires { ⌜ n < 80 ⌝ }
     ensures { λ r. ⌜ r ≡ columnOf chip n ⌝ }
 {
     if chip.reverse { 79 - n } else { n }
@@ -37,8 +38,8 @@ fn lines_from(ram: &[u8], column: usize, line: usize) -> u8
 {
     let page = line % 32 / 8;
     let shift = line % 8;
-    let upper = ram[Chip::PAGE_WIDTH * page + column] as u64;
-    let lower = ram[Chip::PAGE_WIDTH * ((page + 1) % 4) + column] as u64;
+    let upper = ram[Chip::PAGE_WIDTH * page + column] as u16;
+    let lower = ram[Chip::PAGE_WIDTH * ((page + 1) % 4) + column] as u16;
     (((upper + 256 * lower) >> shift) % 256) as u8
 }
 
@@ -52,7 +53,7 @@ fn rows_dark(chip: Chip, r: usize) -> bool
 // The byte of a segment in the eight rows from 8 r.
 fn segment_byte(chip: Chip, ram: &[u8], n: usize, r: usize) -> u8
     requires { ⌜ Shows chip (now ram) ⌝ }
-    requires { ⌜ n < 61 ⌝ }
+    requires { ⌜ n < 80 ⌝ }
     requires { ⌜ r < 4 ⌝ }
     ensures { λ b. ⌜ b ≡ frameByte chip (now (ram .entry)) n r ⌝ }
 {
@@ -69,31 +70,44 @@ fn segment_byte(chip: Chip, ram: &[u8], n: usize, r: usize) -> u8
     lines_from(ram, column_of(chip, n), line)
 }
 
-// The byte at a place of the frame.
-fn byte_at(left: Chip, right: Chip, ram: &[u8], i: usize) -> u8
-    requires { ⌜ BothShow left right (now ram) ⌝ }
-    requires { ⌜ i < 488 ⌝ }
-    ensures { λ b. ⌜ b ≡ byteAt left right (now (ram .entry)) i ⌝ }
+// A half in the eight rows from 8 r: a byte for each segment.
+fn fill_half(chip: Chip, ram: &[u8], r: usize, half: &mut [u8])
+    requires { ⌜ Shows chip (now ram) ⌝ }
+    requires { ⌜ r < 4 ⌝ }
+    requires { ⌜ length (now half) ≤ 80 ⌝ }
+    ensures { λ _. ⌜ now (half .exit) ≡ halfRow (length (now (half .entry))) chip (now (ram .entry)) r ⌝ }
 {
-    let x = i % Chip::PANEL_WIDTH;
-    let r = i / Chip::PANEL_WIDTH;
-    if x < Chip::SEGMENTS {
-        segment_byte(left, &ram[..Chip::RAM_WIDTH], x, r)
-    } else {
-        segment_byte(right, &ram[Chip::RAM_WIDTH..], x - Chip::SEGMENTS, r)
+    let mut n = 0;
+    while n < half.len() {
+        half[n] = segment_byte(chip, ram, n, r);
+        n = n + 1;
     }
 }
 
-// The frame of chips in range.
+// Both halves in the eight rows from 8 r.
+fn fill_row(left: Chip, right: Chip, ram: &[u8], r: usize, row: &mut [u8])
+    requires { ⌜ BothShow left right (now ram) ⌝ }
+    requires { ⌜ r < 4 ⌝ }
+    requires { ⌜ length (now row) ≡ columns ⌝ }
+    ensures { λ _. ⌜ now (row .exit) ≡ frameRow left right (now (ram .entry)) r ⌝ }
+{
+    let middle = Chip::SEGMENTS;
+    fill_half(left, &ram[..Chip::RAM_WIDTH], r, &mut row[..middle]);
+    fill_half(right, &ram[Chip::RAM_WIDTH..], r, &mut row[middle..]);
+}
+
+// The frame of chips in range, row by row.
 fn fill(left: Chip, right: Chip, ram: &[u8], frame: &mut [u8])
     requires { ⌜ BothShow left right (now ram) ⌝ }
-    requires { ⌜ length (now frame) ≡ 488 ⌝ }
+    requires { ⌜ length (now frame) ≡ frameBytes ⌝ }
     ensures { λ _. ⌜ now (frame .exit) ≡ frameOf left right (now (ram .entry)) ⌝ }
 {
-    let mut i = 0;
-    while i < FRAME_BYTES {
-        frame[i] = byte_at(left, right, ram, i);
-        i = i + 1;
+    let mut r = 0;
+    while r < 4 {
+        let at = Chip::PANEL_WIDTH * r;
+        let end = at + Chip::PANEL_WIDTH;
+        fill_row(left, right, ram, r, &mut frame[at..end]);
+        r = r + 1;
     }
 }
 
@@ -132,6 +146,6 @@ pub fn frame(left: Chip, right: Chip, ram: &[u8], frame: &mut [u8]) -> Framed
     fill(left, right, ram, frame);
     Framed {
         number: 0,
-        place: 488,
+        place: FRAME_BYTES as u64,
     }
 }
