@@ -1,5 +1,5 @@
--- The laws of the frame: document 01's sentence on its pixels, and those by which the layers above know it, each about one half: one chip over its 320
--- bytes, and the 61 columns of the panel that it drives.
+-- The laws of the frame: document 01's sentence on its pixels, when it is given, and those about one half, by which the layers above know it: one chip
+-- over its 320 bytes, and the 61 columns of the panel that it drives.
 use Prim.Native.Nat.{ℕ, _+_, _*_, _/_, _%_, _^_, _<_, _≤_}
 use mathlib.Core.Path.{_≡_}
 use mathlib.Core.Bool.{Bool, true, false, not, _&&_}
@@ -8,10 +8,11 @@ use mathlib.Core.Logic.{_⊎_}
 use lib.Dec.{leb, eqb}
 use lib.ListN.{length, getD}
 use Rattle.sed1520.specs.Choice.{if}
+use Rattle.sed1520.specs.Chip.{inRange}
 use Rattle.sed1520.specs.Memory.{ramIndex}
 use Rattle.sed1520.specs.Panel.{Panel, chipAt, ramAt}
 use Rattle.sed1520.specs.declared.registers.Chip.{Chip}
-use Rattle.frame.specs.Frame.{segments, columns, frameBytes, columnOf, pixel, frameByte, frameOf}
+use Rattle.frame.specs.Frame.{segments, columns, frameBytes, columnOf, pixel, frameByte, frameOf, outcome, framed}
 
 -- byte x + 122 r, bit b, is the pixel at column x and row 8 r + b: that of segment x mod 61 of chip x / 61, over its 320 bytes
 abbrev pub EveryPixelPlaced : Type 0
@@ -19,6 +20,12 @@ EveryPixelPlaced =
     (p : Panel) (x r b : ℕ) → x < columns → r < 4 → b < 8
     → getD (frameOf (p .left) (p .right) (p .ram)) (x + columns * r) 0 / 2 ^ b % 2
     ≡ pixel (chipAt p (x / segments)) (ramAt p (x / segments)) (x % segments) (8 * r + b)
+
+-- chips in range over 640 bytes, a buffer of 488: number 0, the frame's length as place, and the frame in the buffer, whatever that held
+abbrev pub EveryFrameGiven : Type 0
+EveryFrameGiven =
+    (left right : Chip) (ram buffer : List ℕ) → inRange left ≡ true → inRange right ≡ true → length ram ≡ 640 → length buffer ≡ frameBytes
+    → framed left right ram buffer ≡ outcome 0 frameBytes (frameOf left right ram)
 
 -- the first column of a chip's half
 abbrev pub firstColumn : ℕ → ℕ

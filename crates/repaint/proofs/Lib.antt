@@ -1,3 +1,4 @@
+pub mod Frames
 pub mod Walk
 pub mod Sides
 pub mod Quiet

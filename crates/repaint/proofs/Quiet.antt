@@ -18,7 +18,8 @@ use Rattle.sed1520.proofs.Tests.{tested, either, both, when}
 use Rattle.sed1520.proofs.PanelLaws.{every-half-whole}
 use Rattle.frame.specs.Laws.{firstColumn, showsRam, SameShown}
 use Rattle.frame.proofs.HalfLaws.{half-laws}
-use Rattle.repaint.specs.TearFree.{Ready, BothReady, SameHalf, shown}
+use Rattle.repaint.specs.TearFree.{Ready, BothReady, SameHalf}
+use Rattle.repaint.proofs.Frames.{frameAt}
 
 -- equal switches and start line
 pub record Switches (a b : Registers) : Type 0 where
@@ -82,7 +83,7 @@ module _ (p q : Panel) (ready : BothReady p) (k : ℕ) (still : Still (chipAt p 
         bytes = λ row below shows. sym (still .kept _ (row-inside (chipAt p k .«start_line») row _ (line-of (chipAt p k) c) (upper-row (chipAt p k) row (c .duty) shows) (half-laws .near (chipAt p k) n h)));
       }
 
-  pub half-same : SameHalf k (shown q) (shown p)
+  pub half-same : SameHalf k (frameAt q) (frameAt p)
   half-same =
       record {
         at = λ n r h l.
@@ -107,12 +108,12 @@ module _ (one other : List ℕ) (left : SameHalf 0 one other) (right : SameHalf 
   pub halves-same : length one ≡ 488 → length other ≡ 488 → one ≡ other
   halves-same h l = ext-getD 0 one other (h ∙ sym l) (λ i below. at-place i (omega arith))
 
-pub frame-length : (p : Panel) → length (shown p) ≡ 488
+pub frame-length : (p : Panel) → length (frameAt p) ≡ 488
 frame-length p = half-laws .whole (p .left) (p .right) (p .ram)
 
-pub quiet-shown : (p q : Panel) → BothReady p → Quiet p q → shown q ≡ shown p
-quiet-shown p q ready quiet =
-    halves-same (shown q) (shown p) (half-same p q ready 0 (quiet .still 0)) (half-same p q ready 1 (quiet .still 1)) (frame-length q) (frame-length p)
+pub quiet-frame : (p q : Panel) → BothReady p → Quiet p q → frameAt q ≡ frameAt p
+quiet-frame p q ready quiet =
+    halves-same (frameAt q) (frameAt p) (half-same p q ready 0 (quiet .still 0)) (half-same p q ready 1 (quiet .still 1)) (frame-length q) (frame-length p)
 
 -- a panel is quiet where it begins
 pub quiet-at-start : (p : Panel) → BothReady p → Quiet p p

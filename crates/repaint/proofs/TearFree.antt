@@ -1,7 +1,7 @@
 -- Demand 3: of every repaint of a list, each stopped after any whole cycle, only the last two cycles change what the panel shows.
 use Prim.Native.Nat.{ℕ, _+_, _*_, _<_, _≤_}
 use native.Mathlib.Omega.{arith}
-use mathlib.Core.Path.{_≡_, ap, _∙_}
+use mathlib.Core.Path.{_≡_, sym, ap, _∙_}
 use mathlib.Core.Bool.{true, false}
 use mathlib.Core.List.{List, [], _∷_, _++_}
 use mathlib.Core.Logic.{_⊎_, ⊎-elim}
@@ -12,9 +12,10 @@ use Rattle.sed1520.specs.Records.{front}
 use Rattle.sed1520.specs.declared.bus.Record.{Record}
 use Rattle.sed1520.proofs.Tests.{tested}
 use Rattle.repaint.specs.Repaint.{pagesOf, turnsOf, recordsOf, bytesOf, sizesWrong, answer, given}
-use Rattle.repaint.specs.TearFree.{BothReady, Request, asked, sentSoFar, leaves, shown, wanted, Refused, Accepted, Safe, AllSafe, TearFree}
+use Rattle.repaint.specs.TearFree.{BothReady, Request, asked, sentSoFar, leaves, shown, wanted, SameHalf, Refused, Accepted, Safe, AllSafe, TearFree}
+use Rattle.repaint.proofs.Frames.{frameAt, shown-frame, frame-given}
 use Rattle.repaint.proofs.Walk.{Taken, walk-holds}
-use Rattle.repaint.proofs.Quiet.{Quiet, half-same, halves-same, frame-length, quiet-shown}
+use Rattle.repaint.proofs.Quiet.{Quiet, half-same, halves-same, frame-length, quiet-frame}
 use Rattle.repaint.proofs.Turn.{half-wanted}
 use Rattle.repaint.proofs.Counts.{pages-length, records-length}
 use Rattle.repaint.proofs.Sent.{records-back, walk-taken}
@@ -29,7 +30,7 @@ module _ (p : Panel) (ready : BothReady p) (q : Request) where
   refused : sizesWrong (length (q .picture)) (length (q .buffer)) ≡ true → Refused p q
   refused e =
       let given-back = wrong-size (p .left) (p .right) (q .picture) (q .buffer) e in
-      record { number = rw given-back; place = rw given-back; buffer = rw given-back; stays = rw given-back }
+      record { number = rw given-back; place = rw given-back; buffer = rw given-back; stays = rw given-back; frame = frame-given p ready }
 
   module _ (sizes : sizesWrong (length (q .picture)) (length (q .buffer)) ≡ false) where
     size : length (q .picture) ≡ 244
@@ -60,12 +61,15 @@ module _ (p : Panel) (ready : BothReady p) (q : Request) where
     ready-at-stop : (k : ℕ) → k ≤ 254 → BothReady (sentSoFar p q k)
     ready-at-stop k h = rw (stop k h) (walk-holds BothReady p records (all-ready p ready (q .picture)) k (omega (arith, all)))
 
-    as-before : (k : ℕ) → k ≤ 252 → shown (sentSoFar p q k) ≡ shown p
+    frame-at-stop : (k : ℕ) → k ≤ 254 → shown (sentSoFar p q k) ≡ frameAt (sentSoFar p q k)
+    frame-at-stop k h = shown-frame (sentSoFar p q k) (ready-at-stop k h)
+
+    as-before : (k : ℕ) → k ≤ 252 → frameAt (sentSoFar p q k) ≡ frameAt p
     unfolding recordsOf
     as-before k h =
         let within : k ≤ length pages = omega (arith, pages-length (p .left) (p .right) (q .picture)) in
         rw (stop k (omega arith), take-append-le k pages (turnsOf (p .left) (p .right)) within)
-        (quiet-shown p (after p (take k pages)) ready (walk-holds (Quiet p) p pages (pages-quiet p ready (q .picture)) k within))
+        (quiet-frame p (after p (take k pages)) ready (walk-holds (Quiet p) p pages (pages-quiet p ready (q .picture)) k within))
 
     at-half : sentSoFar p q 253 ≡ half-way p ready (q .picture)
     at-half = stop 253 (omega arith) ∙ after-253 p ready (q .picture)
@@ -76,14 +80,22 @@ module _ (p : Panel) (ready : BothReady p) (q : Request) where
     wanted-length : length (wanted (q .picture)) ≡ 488
     wanted-length = padded (q .picture) 244 ∙ rw size
 
-    all-wanted : shown (done p ready (q .picture)) ≡ wanted (q .picture)
+    all-wanted : frameAt (done p ready (q .picture)) ≡ wanted (q .picture)
     all-wanted =
         let end = done p ready (q .picture) in
-        halves-same (shown end) (wanted (q .picture))
+        halves-same (frameAt end) (wanted (q .picture))
         (half-wanted (p .left) 0 (q .picture) size (q .bytes) end (left-done p ready (q .picture)))
         (half-wanted (p .right) 1 (q .picture) size (q .bytes) end (right-done p ready (q .picture)))
         (frame-length end)
         wanted-length
+
+    -- the two halves between the last two cycles
+    left-wanted : SameHalf 0 (frameAt (half-way p ready (q .picture))) (wanted (q .picture))
+    left-wanted =
+        half-wanted (p .left) 0 (q .picture) size (q .bytes) (half-way p ready (q .picture)) (left-half p ready (q .picture))
+
+    right-kept : SameHalf 1 (frameAt (half-way p ready (q .picture))) (frameAt p)
+    right-kept = half-same p (half-way p ready (q .picture)) ready 1 (right-still p ready (q .picture))
 
     accepted : Accepted p q
     accepted =
@@ -93,9 +105,10 @@ module _ (p : Panel) (ready : BothReady p) (q : Request) where
           cycles = λ k h. cycle k (omega (arith, q .within)) .number;
           places = λ k h. cycle k (omega (arith, q .within)) .place;
           ready = λ k h. ready-at-stop k (omega (arith, q .within));
-          before = λ k h l. as-before k l;
-          turned = λ h. rw at-half (half-wanted (p .left) 0 (q .picture) size (q .bytes) (half-way p ready (q .picture)) (left-half p ready (q .picture)), half-same p (half-way p ready (q .picture)) ready 1 (right-still p ready (q .picture)));
-          whole = λ h. ap shown at-end ∙ all-wanted;
+          frames = λ k h. frame-given (sentSoFar p q k) (ready-at-stop k (omega (arith, q .within)));
+          before = λ k h l. frame-at-stop k (omega arith) ∙ as-before k l ∙ sym (shown-frame p ready);
+          turned = λ h. rw (frame-at-stop 253 (omega arith), shown-frame p ready, at-half) (left-wanted, right-kept);
+          whole = λ h. frame-at-stop 254 (omega arith) ∙ ap frameAt at-end ∙ all-wanted;
         }
 
   safe : Safe p q

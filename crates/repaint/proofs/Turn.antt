@@ -21,7 +21,8 @@ use Rattle.frame.specs.Frame.{columnOf, frameByte}
 use Rattle.frame.specs.Laws.{firstColumn, TwoPages}
 use Rattle.frame.proofs.HalfLaws.{half-laws}
 use Rattle.repaint.specs.Repaint.{hiddenPage, lowestColumn, segmentOf, pictureByte, turnedLine, turn}
-use Rattle.repaint.specs.TearFree.{Ready, SameHalf, shown, wanted}
+use Rattle.repaint.specs.TearFree.{Ready, SameHalf, wanted}
+use Rattle.repaint.proofs.Frames.{frameAt}
 use Rattle.repaint.proofs.Walk.{Taken}
 use Rattle.repaint.proofs.Sides.{Moved, taken, moved}
 use Rattle.repaint.proofs.Quiet.{Switches}
@@ -95,7 +96,7 @@ module _ (c : Chip) (k : ℕ) (picture : List ℕ) (size : length picture ≡ 24
       (tested (ltb r 2))
 
 -- such a half is wanted
-pub half-wanted : (c : Chip) (k : ℕ) (picture : List ℕ) → length picture ≡ 244 → ((i : ℕ) → getD picture i 0 < 256) → (t : Panel) → Turned c k picture (chipAt t k) (ramAt t k) → SameHalf k (shown t) (wanted picture)
+pub half-wanted : (c : Chip) (k : ℕ) (picture : List ℕ) → length picture ≡ 244 → ((i : ℕ) → getD picture i 0 < 256) → (t : Panel) → Turned c k picture (chipAt t k) (ramAt t k) → SameHalf k (frameAt t) (wanted picture)
 half-wanted c k picture size bytes t turned =
     record { at = λ n r h l. half-laws .place t k n r h l ∙ wanted-byte c k picture size bytes (chipAt t k) (ramAt t k) turned n r h l }
 

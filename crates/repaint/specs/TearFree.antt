@@ -12,7 +12,7 @@ use Rattle.sed1520.specs.Chip.{inRange}
 use Rattle.sed1520.specs.Panel.{Panel, outcomeOf, after}
 use Rattle.sed1520.specs.Records.{front, recordsIn}
 use Rattle.sed1520.specs.declared.registers.Chip.{Chip}
-use Rattle.frame.specs.Frame.{frameOf, segments, columns}
+use Rattle.frame.specs.Frame.{segments, columns, frameBytes, outcome, framed}
 use Rattle.frame.specs.Laws.{firstColumn}
 use Rattle.repaint.specs.Repaint.{Outcome, sizesWrong, repaintOf}
 
@@ -51,9 +51,13 @@ sentSoFar p q k = after p (recordsIn (asked p q .buffer) k)
 abbrev pub leaves : Panel → Request → Panel
 leaves p q = if (eqb (asked p q .answer .number) 0) (sentSoFar p q (q .stop)) p
 
--- the frame, as the panel stands
-abbrev pub shown : Panel → List ℕ
-shown p = frameOf (p .left) (p .right) (p .ram)
+-- what the panel shows: the bytes that the frame's call leaves in a buffer of 488, called as the panel stands
+unfoldable pub shown : Panel → List ℕ
+shown p = framed (p .left) (p .right) (p .ram) (replicate frameBytes 0) .frame
+
+-- that call is done, with place 488 and the same bytes, into any buffer of 488
+pub record FrameGiven (p : Panel) : Type 0 where
+  pub given : (buffer : List ℕ) → length buffer ≡ frameBytes → framed (p .left) (p .right) (p .ram) buffer ≡ outcome 0 frameBytes (shown p)
 
 -- the frame that a picture asks for: the picture in the upper 16 rows, the lower 16 dark
 abbrev pub wanted : List ℕ → List ℕ
@@ -63,20 +67,23 @@ wanted picture = picture ++ replicate 244 0
 pub record SameHalf (chip : ℕ) (one other : List ℕ) : Type 0 where
   pub at : (n r : ℕ) → n < segments → r < 4 → getD one (firstColumn chip + n + columns * r) 0 ≡ getD other (firstColumn chip + n + columns * r) 0
 
--- refused with number 1: buffer and panel as they were
+-- refused with number 1: buffer and panel as they were, and the frame of that panel given
 pub record Refused (p : Panel) (q : Request) : Type 0 where
   pub number : asked p q .answer .number ≡ 1
   pub place : asked p q .answer .place ≡ 0
   pub buffer : asked p q .buffer ≡ q .buffer
   pub stays : leaves p q ≡ p
+  pub frame : FrameGiven p
 
--- accepted: every sent cycle accepted, both chips ready after each, and only the last two cycles change what is shown, each its own half
+-- accepted: every sent cycle accepted, both chips ready and the frame given before the first and after each, and only the last two cycles change what
+-- is shown, each its own half
 pub record Accepted (p : Panel) (q : Request) : Type 0 where
   pub number : asked p q .answer .number ≡ 0
   pub place : asked p q .answer .place ≡ 254
   pub cycles : (k : ℕ) → k < q .stop → outcomeOf (sentSoFar p q k) (front (drop (4 * k) (asked p q .buffer))) .answer .number ≡ 0
   pub places : (k : ℕ) → k < q .stop → outcomeOf (sentSoFar p q k) (front (drop (4 * k) (asked p q .buffer))) .answer .place ≡ 0
   pub ready : (k : ℕ) → k ≤ q .stop → BothReady (sentSoFar p q k)
+  pub frames : (k : ℕ) → k ≤ q .stop → FrameGiven (sentSoFar p q k)
   pub before : (k : ℕ) → k ≤ q .stop → k ≤ 252 → shown (sentSoFar p q k) ≡ shown p
   pub turned : 253 ≤ q .stop → SameHalf 0 (shown (sentSoFar p q 253)) (wanted (q .picture)) × SameHalf 1 (shown (sentSoFar p q 253)) (shown p)
   pub whole : 254 ≤ q .stop → shown (sentSoFar p q 254) ≡ wanted (q .picture)
