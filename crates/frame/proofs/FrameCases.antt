@@ -24,7 +24,10 @@ pub sizes-right : (ram frame : ℕ) → sizesWrong ram frame ≡ false → Sized
 unfolding sizesWrong
 sizes-right ram frame e =
     let right = neither (not (eqb ram 640)) (not (eqb frame frameBytes)) e in
-    record { image = eqb-true ram 640 (not-false (eqb ram 640) (right .0)); buffer = eqb-true frame frameBytes (not-false (eqb frame frameBytes) (right .1)) }
+    record {
+      image = eqb-true ram 640 (not-false (eqb ram 640) (right .0));
+      buffer = eqb-true frame frameBytes (not-false (eqb frame frameBytes) (right .1));
+    }
 
 module _ (left right : Chip) (ram frame : List ℕ) where
   pub wrong-size : sizesWrong (length ram) (length frame) ≡ true → framed left right ram frame ≡ outcome 1 0 frame
@@ -63,7 +66,8 @@ places-small left right ram frame =
     Short : Outcome → Type 0
     Short o = o .answer .place < 65536
 
-pub place-small : (left right : Chip) (ram frame : List ℕ) {a : Framed} {after : List ℕ} → given a after ≡ framed left right ram frame → a .place < 65536
+pub place-small : (left right : Chip) (ram frame : List ℕ) {a : Framed} {after : List ℕ}
+    → given a after ≡ framed left right ram frame → a .place < 65536
 place-small left right ram frame e =
     let place = ap (λ (o : Outcome). o .answer .place) e in
     omega (arith, places-small left right ram frame)

@@ -4,7 +4,7 @@ use native.Mathlib.Omega.{arith}
 use mathlib.Core.Path.{_≡_, refl, _∙_}
 use mathlib.Core.Bool.{Bool, true, false, not, _&&_}
 use mathlib.Core.List.{List}
-use mathlib.Core.Logic.{_⊎_, ⊎-elim}
+use mathlib.Core.Logic.{⊎-elim}
 use lib.Dec.{leb, eqb}
 use lib.ListN.{length, getD, take, drop}
 use borrow.Author.Tests.{le-leb, lt-leb, not-false}
@@ -23,7 +23,8 @@ module _ (p : Panel) (n r : ℕ) (segment : n < segments) (row : r < 4) where
   abbrev rows : ℕ → List ℕ
   rows = frameRow (p .left) (p .right) (p .ram)
 
-  at-half : (left : Bool) → getD (rows r) (if left 0 segments + n) 0 ≡ frameByte (if left (p .left) (p .right)) (if left (take 320 (p .ram)) (drop 320 (p .ram))) n r
+  at-half : (left : Bool) → getD (rows r) (if left 0 segments + n) 0
+      ≡ frameByte (if left (p .left) (p .right)) (if left (take 320 (p .ram)) (drop 320 (p .ram))) n r
   at-half true = row-left (p .left) (p .right) (p .ram) r n segment
   at-half false = row-right (p .left) (p .right) (p .ram) r n segment
 
@@ -31,9 +32,11 @@ module _ (p : Panel) (n r : ℕ) (segment : n < segments) (row : r < 4) where
   inside true = omega arith
   inside false = omega arith
 
-  half-place : (chip : ℕ) → getD (frameOf (p .left) (p .right) (p .ram)) (firstColumn chip + n + columns * r) 0 ≡ frameByte (chipAt p chip) (ramAt p chip) n r
+  half-place : (chip : ℕ) → getD (frameOf (p .left) (p .right) (p .ram)) (firstColumn chip + n + columns * r) 0
+      ≡ frameByte (chipAt p chip) (ramAt p chip) n r
   unfolding frameOf
-  half-place chip = row-at rows (row-length (p .left) (p .right) (p .ram)) r (firstColumn chip + n) row (inside (eqb chip 0)) ∙ at-half (eqb chip 0)
+  half-place chip =
+      row-at rows (row-length (p .left) (p .right) (p .ram)) r (firstColumn chip + n) row (inside (eqb chip 0)) ∙ at-half (eqb chip 0)
 
 whole-frame : (left right : Chip) (ram : List ℕ) → length (frameOf left right ram) ≡ frameBytes
 unfolding frameOf
@@ -62,7 +65,8 @@ module _ (c : Chip) (ram : List ℕ) (n r : ℕ) (pages : TwoPages c) where
   half-lower : 2 ≤ r → frameByte c ram n r ≡ 0
   half-lower h = segment-hidden c ram n r (pages .display) (pages .static) (rw (pages .duty, le-leb 2 r h))
 
-  upper-from : (page : ℕ) → (c .«start_line» + 8 * r) % 32 / 8 ≡ page → (c .«start_line» + 8 * r) % 8 ≡ 0 → r < 2 → frameByte c ram n r ≡ getD ram (ramIndex page (columnOf c n)) 0 % 256
+  upper-from : (page : ℕ) → (c .«start_line» + 8 * r) % 32 / 8 ≡ page → (c .«start_line» + 8 * r) % 8 ≡ 0 → r < 2
+      → frameByte c ram n r ≡ getD ram (ramIndex page (columnOf c n)) 0 % 256
   upper-from page here whole h =
       segment-shown c ram n r (pages .display) (pages .static) (rw (pages .duty, lt-leb 2 r h))
       ∙ packed-bits 8 (lineBit ram (columnOf c n)) (c .«start_line» + 8 * r) (getD ram (ramIndex page (columnOf c n)) 0)
@@ -72,7 +76,9 @@ module _ (c : Chip) (ram : List ℕ) (n r : ℕ) (pages : TwoPages c) where
 
   half-upper : r < 2 → frameByte c ram n r ≡ getD ram (ramIndex (c .«start_line» / 8 + r) (columnOf c n)) 0 % 256
   half-upper h =
-      ⊎-elim (λ e. upper-from (c .«start_line» / 8 + r) (omega arith) (omega arith) h) (λ e. upper-from (c .«start_line» / 8 + r) (omega arith) (omega arith) h) (pages .line)
+      let page : (c .«start_line» + 8 * r) % 32 / 8 ≡ c .«start_line» / 8 + r = ⊎-elim (λ e. omega arith) (λ e. omega arith) (pages .line) in
+      let top : (c .«start_line» + 8 * r) % 8 ≡ 0 = ⊎-elim (λ e. omega arith) (λ e. omega arith) (pages .line) in
+      upper-from (c .«start_line» / 8 + r) page top h
 
 pub half-laws : HalfLaws
 half-laws =

@@ -1,5 +1,5 @@
 -- The two halves of the image, each under its own chip, and of a row of the frame.
-use Prim.Native.Nat.{ℕ, zero, suc, _+_, _-_, _<_}
+use Prim.Native.Nat.{ℕ, zero, suc, _+_, _-_, _<_, _≤_}
 use native.Mathlib.Omega.{arith}
 use mathlib.Core.Path.{_≡_, refl, ap, _∙_}
 use mathlib.Core.List.{List, [], _++_, append-nil}
@@ -82,9 +82,11 @@ module _ (left right : Chip) (ram : List ℕ) (r : ℕ) (row one two : List ℕ)
     pub right-length : length (take (length half-way - segments) (drop segments half-way)) ≡ segments
     right-length = rw (right-part, length-drop segments row, long)
 
-    pub row-filled : two ≡ halfRow (length (take (length half-way - segments) (drop segments half-way))) right (take (length ram - 320) (drop 320 ram)) r
+    pub row-filled :
+        two ≡ halfRow (length (take (length half-way - segments) (drop segments half-way))) right (take (length ram - 320) (drop 320 ram)) r
         → take segments half-way ++ (two ++ drop (length half-way - segments) (drop segments half-way)) ≡ frameRow left right ram r
     unfolding frameRow
     row-filled is-right =
-        let past : drop (length half-way - segments) (drop segments half-way) ≡ [] = drop-of-length-le (drop segments half-way) {i = length half-way - segments} (simp length-drop (omega arith)) in
+        let long : length (drop segments half-way) ≤ length half-way - segments = simp length-drop (omega arith) in
+        let past : drop (length half-way - segments) (drop segments half-way) ≡ [] = drop-of-length-le (drop segments half-way) long in
         rw (past, append-nil, take-at one (drop segments row) segments one-length, is-right, right-length, rest ram 320, left-written)

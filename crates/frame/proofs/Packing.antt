@@ -1,4 +1,4 @@
--- Pixels packedPixels into a number, and eight RAM lines taken out of two pages at once.
+-- Pixels packed into a number, and eight RAM lines taken out of two pages at once.
 use Prim.Native.Nat.{ℕ, zero, suc, _+_, _-_, _*_, _/_, _%_, _^_, _<_, _≤_}
 use native.Mathlib.Omega.{arith}
 use mathlib.Core.Path.{_≡_, refl, sym, ap, _∙_}
@@ -6,19 +6,28 @@ use mathlib.Core.List.{List}
 use mathlib.Core.Logic.{⊎-elim}
 use lib.Dec.{ltb}
 use lib.ListN.{getD}
-use lib.Pow.{shr-shr, mod-pow-add}
+use lib.Pow.{shr-shr, mod-pow-add, field, mod-mod-pow}
 use borrow.Author.Tests.{ltb-true, ltb-false}
 use Rattle.sed1520.specs.Memory.{ramIndex}
 use Rattle.sed1520.proofs.Tests.{tested}
 use Rattle.frame.specs.Frame.{lineBit, packedPixels}
+
+-- the next place, and the next bit
+pub next : (at i : ℕ) → at + 1 + i ≡ at + suc i
+next at i = omega arith
+
+pub halved : (x i : ℕ) → x / 2 / 2 ^ i ≡ x / 2 ^ suc i
+halved x i = let up : 1 + i ≡ suc i = omega arith in shr-shr x 1 i ∙ rw up
 
 -- the same pixels pack to the same number
 pub packed-same : (n : ℕ) (f g : ℕ → ℕ) (at to : ℕ) → ((i : ℕ) → i < n → f (at + i) ≡ g (to + i)) → packedPixels f at n ≡ packedPixels g to n
 unfolding packedPixels
 packed-same zero f g at to h = refl
 packed-same (suc n) f g at to h =
-    let first : f at ≡ g to = (let e : at + 0 ≡ at = omega arith in let e′ : to + 0 ≡ to = omega arith in rw (e, e′) at (h 0 (omega arith))) in
-    let rest = packed-same n f g (at + 1) (to + 1) (λ i l. let e : at + 1 + i ≡ at + suc i = omega arith in let e′ : to + 1 + i ≡ to + suc i = omega arith in rw (e, e′) (h (suc i) (omega arith))) in
+    let from : at + 0 ≡ at = omega arith in
+    let onto : to + 0 ≡ to = omega arith in
+    let first = rw (from, onto) at (h 0 (omega arith)) in
+    let rest = packed-same n f g (at + 1) (to + 1) (λ i l. rw (next at i, next to i) (h (suc i) (omega arith))) in
     rw (first, rest)
 
 -- the bits of a number pack to the number, up to so many
@@ -28,29 +37,28 @@ packed-bits zero f at x h = omega arith
 packed-bits (suc n) f at x h =
     let at-first : at + 0 ≡ at = omega arith in
     let first = rw at-first at (h 0 (omega arith)) in
-    let rest = packed-bits n f (at + 1) (x / 2) (λ i l. let e : at + 1 + i ≡ at + suc i = omega arith in let e′ : 1 + i ≡ suc i = omega arith in rw (e, shr-shr x 1 i, e′) (h (suc i) (omega arith))) in
+    let rest = packed-bits n f (at + 1) (x / 2) (λ i l. rw (next at i, halved x i) (h (suc i) (omega arith))) in
     let more : suc n ≡ n + 1 = omega arith in
     rw (rest, more, mod-pow-add x n 1) (omega arith)
 
 -- a page and the next one as one number of 16 bits
 module _ (upper lower : ℕ) (byte : upper < 256) where
+  abbrev wide : ℕ
+  wide = upper + 256 * lower
+
   -- below 8, its bits are those of the upper page
-  pub wide-upper : (k : ℕ) → k < 8 → (upper + 256 * lower) / 2 ^ k % 2 ≡ upper / 2 ^ k % 2
-  wide-upper zero h = omega arith
-  wide-upper (suc zero) h = omega arith
-  wide-upper (suc (suc zero)) h = omega arith
-  wide-upper (suc (suc (suc zero))) h = omega arith
-  wide-upper (suc (suc (suc (suc zero)))) h = omega arith
-  wide-upper (suc (suc (suc (suc (suc zero))))) h = omega arith
-  wide-upper (suc (suc (suc (suc (suc (suc zero)))))) h = omega arith
-  wide-upper (suc (suc (suc (suc (suc (suc (suc zero))))))) h = omega arith
-  wide-upper (suc (suc (suc (suc (suc (suc (suc (suc k)))))))) h = absurd (omega arith)
+  pub wide-upper : (k : ℕ) → k < 8 → wide / 2 ^ k % 2 ≡ upper / 2 ^ k % 2
+  wide-upper k h =
+      let all : 7 - k + 1 + k ≡ 8 = omega arith in
+      let low : wide % 2 ^ 8 ≡ upper = omega arith in
+      let cut = rw (all, low) at (field wide (7 - k + 1) k) in
+      sym (ap (λ (m : ℕ). m % 2) cut ∙ mod-mod-pow (wide / 2 ^ k) (7 - k) 1)
 
   -- from 8 on, those of the lower page
-  pub wide-lower : (k : ℕ) → (upper + 256 * lower) / 2 ^ (8 + k) ≡ lower / 2 ^ k
+  pub wide-lower : (k : ℕ) → wide / 2 ^ (8 + k) ≡ lower / 2 ^ k
   wide-lower k =
-      let all : (upper + 256 * lower) / 256 ≡ lower = omega arith in
-      sym (shr-shr (upper + 256 * lower) 8 k) ∙ rw all
+      let all : wide / 256 ≡ lower = omega arith in
+      sym (shr-shr wide 8 k) ∙ rw all
 
 -- the eight lines from a line on
 module _ (ram : List ℕ) (column line : ℕ) (near : line < 64) where
@@ -73,12 +81,16 @@ module _ (ram : List ℕ) (column line : ℕ) (near : line < 64) where
         let page : (line + i) % 32 / 8 ≡ (line % 32 / 8 + 1) % 4 = omega arith in
         let bit : (line + i) % 8 ≡ line % 8 + i - 8 = omega arith in
         let sum : line % 8 + i ≡ 8 + (line % 8 + i - 8) = omega arith in
-        rw (page, bit) (sym (ap (λ (k : ℕ). (upper + 256 * lower) / 2 ^ k % 2) sum ∙ ap (λ (k : ℕ). k % 2) (wide-lower upper lower byte (line % 8 + i - 8))))
+        let below = ap (λ (k : ℕ). k % 2) (wide-lower upper lower byte (line % 8 + i - 8)) in
+        rw (page, bit) (sym (ap (λ (k : ℕ). (upper + 256 * lower) / 2 ^ k % 2) sum ∙ below))
 
     each : lineBit ram column (line + i) ≡ (upper + 256 * lower) / 2 ^ (line % 8) / 2 ^ i % 2
     each =
         rw (shr-shr (upper + 256 * lower) (line % 8) i)
-        (⊎-elim (λ l. same-page (ltb-true (line % 8 + i) 8 l)) (λ l. next-page (ltb-false (line % 8 + i) 8 l)) (tested (ltb (line % 8 + i) 8)))
+        (⊎-elim
+        (λ l. same-page (ltb-true (line % 8 + i) 8 l))
+        (λ l. next-page (ltb-false (line % 8 + i) 8 l))
+        (tested (ltb (line % 8 + i) 8)))
 
   pub lines-wide : upper < 256 → packedPixels (lineBit ram column) line 8 ≡ (upper + 256 * lower) / 2 ^ (line % 8) % 256
   lines-wide byte = packed-bits 8 (lineBit ram column) line ((upper + 256 * lower) / 2 ^ (line % 8)) (each byte)

@@ -1,18 +1,18 @@
 -- Each pixel in its bit of its byte.
 use Prim.Native.Nat.{ℕ, zero, suc, _+_, _*_, _/_, _%_, _^_, _<_}
 use native.Mathlib.Omega.{arith}
-use mathlib.Core.Path.{_≡_, _∙_}
+use mathlib.Core.Path.{_≡_}
 use mathlib.Core.Bool.{not, _&&_}
 use mathlib.Core.List.{List}
 use mathlib.Core.Logic.{⊎-elim}
 use lib.Dec.{leb, ltb}
-use lib.Pow.{shr-shr}
 use borrow.Author.Tests.{ltb-true, ltb-false}
-use Rattle.sed1520.specs.Panel.{Panel, chipAt, ramAt}
+use Rattle.sed1520.specs.Panel.{chipAt, ramAt}
 use Rattle.sed1520.specs.declared.registers.Chip.{Chip}
 use Rattle.sed1520.proofs.Tests.{tested, when}
-use Rattle.frame.specs.Frame.{segments, columns, columnOf, lineBit, pixel, packedPixels, frameByte}
+use Rattle.frame.specs.Frame.{segments, columns, pixel, packedPixels, frameByte}
 use Rattle.frame.specs.Laws.{firstColumn, EveryPixelPlaced}
+use Rattle.frame.proofs.Packing.{next, halved}
 use Rattle.frame.proofs.HalfLaws.{half-laws}
 
 -- a pixel is 0 or 1
@@ -32,11 +32,9 @@ unfolding packedPixels
 packed-bit f small zero at b h = absurd (omega arith)
 packed-bit f small (suc n) at zero h = let e : at + 0 ≡ at = omega arith in rw e (omega (arith, small at))
 packed-bit f small (suc n) at (suc b) h =
-    let all = packedPixels f (at + 1) n in
-    let sum : suc b ≡ 1 + b = omega arith in
-    let half : (f at + 2 * all) / 2 ^ 1 ≡ all = omega (arith, small at) in
-    let next : at + 1 + b ≡ at + suc b = omega arith in
-    rw (sum, ← shr-shr (f at + 2 * all) 1 b, half, ← sum, ← next) (packed-bit f small n (at + 1) b (omega arith))
+    let rest = packedPixels f (at + 1) n in
+    let half : (f at + 2 * rest) / 2 ≡ rest = omega (arith, small at) in
+    rw (← halved (f at + 2 * rest) b, half, ← next at b) (packed-bit f small n (at + 1) b (omega arith))
 
 byte-bit : (c : Chip) (ram : List ℕ) (n r b : ℕ) → b < 8 → frameByte c ram n r / 2 ^ b % 2 ≡ pixel c ram n (8 * r + b)
 unfolding frameByte

@@ -3,7 +3,7 @@ use Prim.Native.Nat.{ℕ, zero, suc, _+_, _-_, _*_, _<_, _≤_}
 use native.Mathlib.Omega.{arith}
 use native.Mathlib.Numerals.{add-one}
 use mathlib.Core.Path.{_≡_, refl, sym, _∙_}
-use mathlib.Core.List.{List, [], _∷_, _++_, append-assoc}
+use mathlib.Core.List.{List, [], _++_, append-assoc}
 use lib.ListN.{length, getD, take, drop, length-append, length-drop, List·getD-append}
 use lib.Seq.{take-at, take-all, length-take-le, getD-append-add}
 use Rattle.frame.specs.Frame.{columns, frameBytes}
@@ -23,19 +23,30 @@ pub no-rows : (row : ℕ → List ℕ) (l : List ℕ) → length l ≡ frameByte
 unfolding before
 no-rows row l e = record { front = refl; size = e; within = omega arith }
 
-pub row-more : (row : ℕ → List ℕ) (l part : List ℕ) (r : ℕ) → Rows row l r → r < 4 → part ≡ row r → length (row r) ≡ columns
-    → Rows row (take (columns * r) l ++ (part ++ drop (columns * r + columns - columns * r) (drop (columns * r) l))) (r + 1)
-unfolding before
-row-more row l part r rows h e long =
-    let part-length : length part ≡ columns = rw e long in
-    let front-length : length (take (columns * r) l) ≡ columns * r = length-take-le (columns * r) l (omega (arith, rows .size)) in
-    let both-length : length (take (columns * r) l ++ part) ≡ columns * suc r = length-append (take (columns * r) l) part ∙ omega (arith, front-length, part-length) in
-    let width : columns * r + columns - columns * r ≡ columns = omega arith in
-    record {
-      front = rw (add-one r, width, ← append-assoc, take-at (take (columns * r) l ++ part) (drop columns (drop (columns * r) l)) (columns * suc r) both-length, rows .front, e);
-      size = simp (length-append, length-drop) (omega (arith, front-length, part-length, rows .size));
-      within = omega arith;
-    }
+module _ (row : ℕ → List ℕ) (l part : List ℕ) (r : ℕ) (rows : Rows row l r) (h : r < 4) (e : part ≡ row r) (long : length (row r) ≡ columns) where
+  abbrev front : List ℕ
+  front = take (columns * r) l
+
+  abbrev rest : List ℕ
+  rest = drop columns (drop (columns * r) l)
+
+  front-length : length front ≡ columns * r
+  front-length = length-take-le (columns * r) l (omega (arith, rows .size))
+
+  more-length : length (front ++ part) ≡ columns * suc r
+  more-length =
+      let part-length : length part ≡ columns = rw e long in
+      length-append front part ∙ omega (arith, front-length, part-length)
+
+  pub row-more : Rows row (take (columns * r) l ++ (part ++ drop (columns * r + columns - columns * r) (drop (columns * r) l))) (r + 1)
+  unfolding before
+  row-more =
+      let width : columns * r + columns - columns * r ≡ columns = omega arith in
+      record {
+        front = rw (add-one r, width, ← append-assoc, take-at (front ++ part) rest (columns * suc r) more-length, rows .front, e);
+        size = simp (length-append, length-drop) (omega (arith, front-length, more-length, length-append front part, rows .size));
+        within = omega arith;
+      }
 
 pub all-rows : (row : ℕ → List ℕ) (l : List ℕ) (r : ℕ) → Rows row l r → 4 ≤ r → l ≡ row 0 ++ (row 1 ++ (row 2 ++ row 3))
 unfolding before

@@ -24,7 +24,10 @@ all-pixels f at v h = packed-same 8 f (λ (k : ℕ). v) at 0 h
 hidden-row : (duty : Bool) (r i : ℕ) → i < 8 → (not duty && leb 16 (8 * r + i)) ≡ (not duty && leb 2 r)
 hidden-row true r i h = refl
 hidden-row false r i h =
-    ⊎-elim (λ t. let l = leb-true 2 r t in rw (t, le-leb 16 (8 * r + i) (omega arith))) (λ t. let l = leb-false 2 r t in rw (t, lt-leb 16 (8 * r + i) (omega arith))) (tested (leb 2 r))
+    ⊎-elim
+    (λ t. let l = leb-true 2 r t in rw (t, le-leb 16 (8 * r + i) (omega arith)))
+    (λ t. let l = leb-false 2 r t in rw (t, lt-leb 16 (8 * r + i) (omega arith)))
+    (tested (leb 2 r))
 
 module _ (c : Chip) (ram : List ℕ) (n r : ℕ) where
   pub segment-dark : c .«display_on» ≡ false → frameByte c ram n r ≡ 0
@@ -41,8 +44,12 @@ module _ (c : Chip) (ram : List ℕ) (n r : ℕ) where
       unfolding frameByte packedPixels pixel
       segment-hidden hidden = all-pixels (pixel c ram n) (8 * r) 0 (λ i h. rw (on, driven, hidden-row (c .«duty_32») r i h, hidden))
 
-      pub segment-shown : (not (c .«duty_32») && leb 2 r) ≡ false → frameByte c ram n r ≡ packedPixels (lineBit ram (columnOf c n)) (c .«start_line» + 8 * r) 8
+      pub segment-shown :
+          (not (c .«duty_32») && leb 2 r) ≡ false
+          → frameByte c ram n r ≡ packedPixels (lineBit ram (columnOf c n)) (c .«start_line» + 8 * r) 8
       unfolding frameByte pixel
       segment-shown shown =
           packed-same 8 (pixel c ram n) (lineBit ram (columnOf c n)) (8 * r) (c .«start_line» + 8 * r)
-          (λ i h. let e : c .«start_line» + (8 * r + i) ≡ c .«start_line» + 8 * r + i = omega arith in rw (on, driven, hidden-row (c .«duty_32») r i h, shown, e))
+          (λ i h.
+          let e : c .«start_line» + (8 * r + i) ≡ c .«start_line» + 8 * r + i = omega arith in
+          rw (on, driven, hidden-row (c .«duty_32») r i h, shown, e))

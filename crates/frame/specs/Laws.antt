@@ -1,5 +1,5 @@
--- The laws of the frame: document 01's sentence on its pixels, when it is given, and those about one half, by which the layers above know it: one chip
--- over its 320 bytes, and the 61 columns of the panel that it drives.
+-- The laws of the frame: document 01's sentence on its pixels, when it is given, and those about one half, by which the layers above know it:
+-- one chip over its 320 bytes, and the 61 columns of the panel that it drives.
 use Prim.Native.Nat.{ℕ, _+_, _*_, _/_, _%_, _^_, _<_, _≤_}
 use mathlib.Core.Path.{_≡_}
 use mathlib.Core.Bool.{Bool, true, false, not, _&&_}
@@ -55,11 +55,14 @@ pub record TwoPages (c : Chip) : Type 0 where
   pub duty : c .«duty_32» ≡ false
   pub line : (c .«start_line» ≡ 0) ⊎ (c .«start_line» ≡ 16)
 
--- the RAM column of a segment exists; the frame's length and where a half lies in it; what alone a half depends on; and the two whole pages, dark below
+-- the RAM column of a segment exists; the frame's length and where a half lies in it; what alone a half depends on; and the two whole pages,
+-- dark below
 pub record HalfLaws : Type 0 where
   pub near : (c : Chip) (n : ℕ) → n < segments → columnOf c n < 80
   pub whole : (left right : Chip) (ram : List ℕ) → length (frameOf left right ram) ≡ frameBytes
-  pub place : (p : Panel) (chip n r : ℕ) → n < segments → r < 4 → getD (frameOf (p .left) (p .right) (p .ram)) (firstColumn chip + n + columns * r) 0 ≡ frameByte (chipAt p chip) (ramAt p chip) n r
+  pub place : (p : Panel) (chip n r : ℕ) → n < segments → r < 4
+      → getD (frameOf (p .left) (p .right) (p .ram)) (firstColumn chip + n + columns * r) 0 ≡ frameByte (chipAt p chip) (ramAt p chip) n r
   pub depends : (c d : Chip) (ram other : List ℕ) (n r : ℕ) → r < 4 → SameShown c d ram other n → frameByte c ram n r ≡ frameByte d other n r
-  pub upper : (c : Chip) (ram : List ℕ) (n r : ℕ) → TwoPages c → r < 2 → frameByte c ram n r ≡ getD ram (ramIndex (c .«start_line» / 8 + r) (columnOf c n)) 0 % 256
+  pub upper : (c : Chip) (ram : List ℕ) (n r : ℕ) → TwoPages c → r < 2
+      → frameByte c ram n r ≡ getD ram (ramIndex (c .«start_line» / 8 + r) (columnOf c n)) 0 % 256
   pub lower : (c : Chip) (ram : List ℕ) (n r : ℕ) → TwoPages c → 2 ≤ r → frameByte c ram n r ≡ 0

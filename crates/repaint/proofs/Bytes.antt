@@ -36,7 +36,8 @@ pub holds-none : (old : List ℕ) → Holds [] 0 old old
 unfolding bytesOf
 holds-none old = record { size = refl; bytes = refl }
 
-pub holds-first : (rs : List Record) (old : List ℕ) {at : ℕ} {out : List ℕ} → 4 * length rs ≡ at → out ≡ bytesOf rs ++ drop at old → Holds rs at old out
+pub holds-first : (rs : List Record) (old : List ℕ) {at : ℕ} {out : List ℕ}
+    → 4 * length rs ≡ at → out ≡ bytesOf rs ++ drop at old → Holds rs at old out
 holds-first rs old size e = record { size = size; bytes = e }
 
 module _ {rs : List Record} {at : ℕ} {old out : List ℕ} (held : Holds rs at old out) where
@@ -44,7 +45,8 @@ module _ {rs : List Record} {at : ℕ} {old out : List ℕ} (held : Holds rs at 
   front-length = bytes-length rs ∙ held .size
 
   -- a part lent from there on, with more records at its front
-  pub holds-more : (more : List Record) {n : ℕ} {part : List ℕ} → 4 * length more ≡ n → part ≡ bytesOf more ++ drop n (take (length out - at) (drop at out))
+  pub holds-more : (more : List Record) {n : ℕ} {part : List ℕ} → 4 * length more ≡ n
+      → part ≡ bytesOf more ++ drop n (take (length out - at) (drop at out))
       → Holds (rs ++ more) (at + n) old (take at out ++ (part ++ drop (length out - at) (drop at out)))
   holds-more more {n} {part} size e =
       let past : drop (length out - at) (drop at out) ≡ [] = drop-of-length-le (drop at out) {i = length out - at} (simp length-drop (omega arith)) in
@@ -56,17 +58,19 @@ module _ {rs : List Record} {at : ℕ} {old out : List ℕ} (held : Holds rs at 
       }
 
 -- one write more goes to the end
-writes-more : (c : Chip) (chip : ℕ) (picture : List ℕ) (r j n : ℕ) → writes c chip picture r j (suc n) ≡ writes c chip picture r j n ++ (sent 3 chip (pictureByte picture chip (segmentOf c (j + n)) r) ∷ [])
+writes-more : (c : Chip) (chip : ℕ) (picture : List ℕ) (r j n : ℕ)
+    → writes c chip picture r j (suc n) ≡ writes c chip picture r j n ++ (sent 3 chip (pictureByte picture chip (segmentOf c (j + n)) r) ∷ [])
 unfolding writes
 writes-more c chip picture r j zero = let e : j + 0 ≡ j = omega arith in rw e
 writes-more c chip picture r j (suc n) = let e : j + 1 + n ≡ j + suc n = omega arith in rw (writes-more c chip picture r (j + 1) n, e)
 
 -- the writes so far, and the next one in a part lent from there on
-pub holds-write : (c : Chip) (chip : ℕ) (picture : List ℕ) (r j : ℕ) (old out : List ℕ) → Holds (writes c chip picture r 0 j) (4 * j) old out
-    → (n byte : ℕ) (part : List ℕ) → n ≡ segmentOf c j → byte ≡ pictureByte picture chip n r → part ≡ recordBytes (sent 3 chip byte) ++ drop 4 (take (length out - 4 * j) (drop (4 * j) out))
+pub holds-write : (c : Chip) (chip : ℕ) (picture : List ℕ) (r j : ℕ) {old out : List ℕ} → Holds (writes c chip picture r 0 j) (4 * j) old out
+    → {n byte : ℕ} {part : List ℕ} → n ≡ segmentOf c j → byte ≡ pictureByte picture chip n r
+    → part ≡ recordBytes (sent 3 chip byte) ++ drop 4 (take (length out - 4 * j) (drop (4 * j) out))
     → Holds (writes c chip picture r 0 (j + 1)) (4 * (j + 1)) old (take (4 * j) out ++ (part ++ drop (length out - 4 * j) (drop (4 * j) out)))
 unfolding bytesOf
-holds-write c chip picture r j old out held n byte part is-segment is-byte e =
+holds-write c chip picture r j held is-segment is-byte e =
     let from-zero : 0 + j ≡ j = omega arith in
     let next : 4 * suc j ≡ 4 * j + 4 = omega arith in
     let e′ = rw (is-byte, is-segment) at e in
@@ -80,7 +84,11 @@ pub page-size : (c : Chip) (chip : ℕ) (picture : List ℕ) (r : ℕ) → 4 * l
 page-size c chip picture r = ap (λ m. 4 * m) (page-length c chip picture r)
 
 -- the six parts in the order in which they are written
-pub in-order : (left right : Chip) (picture : List ℕ)
-    → ((((pageRecords left 0 picture 0 ++ pageRecords left 0 picture 1) ++ pageRecords right 1 picture 0) ++ pageRecords right 1 picture 1) ++ (turn left 0 ∷ [])) ++ (turn right 1 ∷ []) ≡ recordsOf left right picture
-unfolding recordsOf
-in-order left right picture = simp append-assoc
+module _ (left right : Chip) (picture : List ℕ) where
+  abbrev pages-written : List Record
+  pages-written =
+      ((pageRecords left 0 picture 0 ++ pageRecords left 0 picture 1) ++ pageRecords right 1 picture 0) ++ pageRecords right 1 picture 1
+
+  pub in-order : (pages-written ++ (turn left 0 ∷ [])) ++ (turn right 1 ∷ []) ≡ recordsOf left right picture
+  unfolding recordsOf
+  in-order = simp append-assoc

@@ -6,6 +6,7 @@ use lib.ListN.{length, replicate, length-replicate}
 use Rattle.sed1520.specs.Panel.{Panel}
 use Rattle.frame.specs.Frame.{frameBytes, frameOf, Outcome, outcome, framed}
 use Rattle.frame.proofs.FrameCases.{every-frame-given}
+use Rattle.frame.proofs.HalfLaws.{half-laws}
 use Rattle.repaint.specs.TearFree.{BothReady, shown, FrameGiven}
 
 -- the frame, as the panel stands
@@ -21,4 +22,8 @@ module _ (p : Panel) (ready : BothReady p) where
   shown-frame = ap (λ (o : Outcome). o .frame) (call (replicate frameBytes 0) (length-replicate {A = ℕ} frameBytes 0))
 
   pub frame-given : FrameGiven p
-  frame-given = record { given = λ buffer size. call buffer size ∙ rw shown-frame }
+  frame-given =
+      record {
+        bytes = rw shown-frame (half-laws .whole (p .left) (p .right) (p .ram));
+        given = λ buffer size. call buffer size ∙ rw shown-frame;
+      }

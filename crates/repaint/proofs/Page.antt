@@ -1,6 +1,6 @@
--- One hidden page of either chip: page set, column set, 61 data writes. Every stop is quiet; afterwards the page holds its row of the picture, and every
--- other hidden page what it held.
-use Prim.Native.Nat.{ℕ, _+_, _-_, _/_, _<_, _≤_}
+-- One hidden page of either chip: page set, column set, 61 data writes. Every stop is quiet; afterwards the page holds its row of the picture, and
+-- every other hidden page what it held.
+use Prim.Native.Nat.{ℕ, _+_, _/_, _<_, _≤_}
 use native.Mathlib.Omega.{arith}
 use mathlib.Core.Path.{_≡_, refl, sym, ap, _∙_}
 use mathlib.Core.Bool.{Bool, true, false}
@@ -19,6 +19,7 @@ use Rattle.sed1520.specs.declared.bus.Record.{Record}
 use Rattle.sed1520.specs.declared.commands.Kind.the-variants.{Page, Column}
 use Rattle.sed1520.proofs.CycleLaws.{cycle-laws}
 use Rattle.sed1520.proofs.Tests.{tested}
+use Rattle.frame.specs.Frame.{segments}
 use Rattle.repaint.specs.Repaint.{hiddenPage, lowestColumn, segmentOf, pictureByte, pageRecords}
 use Rattle.repaint.specs.TearFree.{Ready, BothReady}
 use Rattle.repaint.proofs.Walk.{Walk}
@@ -33,7 +34,7 @@ place c r i = ramIndex (hiddenPage c r) (lowestColumn c + i)
 
 -- a chip's RAM holds row r of the picture in the hidden page for it
 pub record RowHeld (c : Chip) (k : ℕ) (picture : List ℕ) (r : ℕ) (ram : List ℕ) : Type 0 where
-  pub byte : (i : ℕ) → i < 61 → getD ram (place c r i) 0 ≡ pictureByte picture k (segmentOf c i) r
+  pub byte : (i : ℕ) → i < segments → getD ram (place c r i) 0 ≡ pictureByte picture k (segmentOf c i) r
 
 -- the rows follow each other from the first hidden page on
 pub page-from : (c : Chip) (r : ℕ) → hiddenPage c r ≡ hiddenPage c 0 + r
@@ -59,7 +60,8 @@ module _ (p : Panel) (ready : BothReady p) (picture : List ℕ) where
     pub walk : Walk (Quiet p) q (pageRecords (chipAt p k) k picture r)
     pub quiet : Quiet p s
     pub held : RowHeld (chipAt p k) k picture r (ramAt s k)
-    pub others : (j i : ℕ) → i < 2 → (eqb j 0 ≡ eqb k 0 → i ≡ r → ⊥) → RowHeld (chipAt p j) j picture i (ramAt q j) → RowHeld (chipAt p j) j picture i (ramAt s j)
+    pub others : (j i : ℕ) → i < 2 → (eqb j 0 ≡ eqb k 0 → i ≡ r → ⊥)
+        → RowHeld (chipAt p j) j picture i (ramAt q j) → RowHeld (chipAt p j) j picture i (ramAt s j)
 
   module _ (k : ℕ) (chip : k < 2) (r : ℕ) (row : r < 2) (q : Panel) (quiet : Quiet p q) where
     abbrev c : Chip
@@ -67,6 +69,10 @@ module _ (p : Panel) (ready : BothReady p) (picture : List ℕ) where
 
     abbrev page : ℕ
     page = hiddenPage c r
+
+    -- the registers where the page begins
+    abbrev a : Registers
+    a = registers (chipAt q k)
 
     near : page < 4
     near = page-small c r row
@@ -76,7 +82,7 @@ module _ (p : Panel) (ready : BothReady p) (picture : List ℕ) where
     set-page = sent 2 k (first Page + page)
 
     abbrev on-page : Registers
-    on-page = placed (registers (chipAt q k)) page (chipAt q k .column)
+    on-page = placed a page (a .column)
 
     page-accepts : Accepts set-page (chipAt q k) (ramAt q k) on-page (ramAt q k)
     page-accepts = cycle-laws .page-set (chipAt q k) (ramAt q k) (quiet .fit k) k chip page near
@@ -88,14 +94,15 @@ module _ (p : Panel) (ready : BothReady p) (picture : List ℕ) where
     q₁ = stepped q set-page
 
     page-quiet : Quiet p q₁
-    page-quiet = quiet-moved p q q₁ k on-page (ramAt q k) quiet page-moved (placed-switches (registers (chipAt q k)) (chipAt q k .page) (chipAt q k .column) page (chipAt q k .column)) (λ at h. refl)
+    page-quiet =
+        quiet-moved p q q₁ k on-page (ramAt q k) quiet page-moved (placed-switches a (a .page) (a .column) page (a .column)) (λ at h. refl)
 
     -- the column
     abbrev set-column : Record
     set-column = sent 2 k (first Column + lowestColumn c)
 
     abbrev at-start : Registers
-    at-start = placed (registers (chipAt q k)) page (lowestColumn c)
+    at-start = placed a page (lowestColumn c)
 
     column-accepts : Accepts set-column (chipAt q₁ k) (ramAt q₁ k) at-start (ramAt q₁ k)
     column-accepts =
@@ -110,21 +117,33 @@ module _ (p : Panel) (ready : BothReady p) (picture : List ℕ) where
     q₂ = stepped q₁ set-column
 
     column-quiet : Quiet p q₂
-    column-quiet = quiet-moved p q₁ q₂ k at-start (ramAt q₁ k) page-quiet column-moved (rw (page-moved .shown) (placed-switches (registers (chipAt q k)) page (chipAt q k .column) page (lowestColumn c))) (λ at h. refl)
+    column-quiet =
+        let switches = placed-switches a page (a .column) page (lowestColumn c) in
+        quiet-moved p q₁ q₂ k at-start (ramAt q₁ k) page-quiet column-moved (rw (page-moved .shown) switches) (λ at h. refl)
 
     ram-so-far : ramAt q₂ k ≡ ramAt q k
     ram-so-far = column-moved .stored ∙ page-moved .stored
 
     -- the bytes
-    all-wrote : Wrote p c k chip picture r (registers (chipAt q k)) page (lowestColumn c) near (page-hidden c r (ready-at p ready k) row) q₂ (after q (pageRecords c k picture r)) 0 61
+    hidden : page / 2 ≡ c .«start_line» / 16 → ⊥
+    hidden = page-hidden c r (ready-at p ready k) row
+
+    abbrev painted-panel : Panel
+    painted-panel = after q (pageRecords c k picture r)
+
+    all-wrote : Wrote p c k chip picture r a page (lowestColumn c) near hidden q₂ painted-panel 0 segments
     unfolding after pageRecords
-    all-wrote = wrote p c k chip picture r (registers (chipAt q k)) page (lowestColumn c) near (page-hidden c r (ready-at p ready k) row) 61 0 q₂ column-quiet (column-moved .shown ∙ rw (from-base (lowestColumn c))) (omega (arith, column-small c))
+    all-wrote =
+        wrote p c k chip picture r a page (lowestColumn c) near hidden segments 0 q₂ column-quiet
+        (column-moved .shown ∙ rw (from-base (lowestColumn c)))
+        (omega (arith, column-small c))
       where
         from-base : (n : ℕ) → n + 0 ≡ n
         from-base n = omega arith
 
     -- a byte of another hidden page lies outside
-    outside : (i at : ℕ) → i < 2 → at < 61 → (i ≡ r → ⊥) → (place c i at < ramIndex page (lowestColumn c + 0)) ⊎ (ramIndex page (lowestColumn c + (0 + 61)) ≤ place c i at)
+    outside : (i at : ℕ) → i < 2 → at < segments → (i ≡ r → ⊥)
+        → (place c i at < ramIndex page (lowestColumn c + 0)) ⊎ (ramIndex page (lowestColumn c + (0 + segments)) ≤ place c i at)
     outside i at h l d =
         let this = page-from c r in
         let that = page-from c i in
@@ -134,19 +153,22 @@ module _ (p : Panel) (ready : BothReady p) (picture : List ℕ) where
         (λ t. let more = ltb-false i r t in inr (omega (arith, this, that, low, more, d)))
         (tested (ltb i r))
 
-    others-kept : (j i : ℕ) → i < 2 → (eqb j 0 ≡ eqb k 0 → i ≡ r → ⊥) → (at : ℕ) → at < 61 → getD (ramAt (after q (pageRecords c k picture r)) j) (place (chipAt p j) i at) 0 ≡ getD (ramAt q j) (place (chipAt p j) i at) 0
+    others-kept : (j i : ℕ) → i < 2 → (eqb j 0 ≡ eqb k 0 → i ≡ r → ⊥) → (at : ℕ) → at < segments
+        → getD (ramAt painted-panel j) (place (chipAt p j) i at) 0 ≡ getD (ramAt q j) (place (chipAt p j) i at) 0
     others-kept j i h d at l =
-        let s = after q (pageRecords c k picture r) in
         ⊎-elim
-        (λ e. rw (ram-side s j k e, ram-side q j k e, chip-side p j k e, sym ram-so-far) (all-wrote .kept (place c i at) (outside i at h l (d e))))
+        (λ e. rw (ram-side painted-panel j k e, ram-side q j k e, chip-side p j k e, sym ram-so-far)
+        (all-wrote .kept (place c i at) (outside i at h l (d e))))
         (λ e. rw (all-wrote .other-ram j e, column-moved .other-ram j e, page-moved .other-ram j e))
         (same-side j k)
 
     pub painted : Painted q (after q (pageRecords c k picture r)) k r
     unfolding Walk pageRecords
     painted =
+        let page-taken = taken q (quiet .image) set-page on-page (ramAt q k) page-accepts in
+        let column-taken = taken q₁ (page-quiet .image) set-column at-start (ramAt q₁ k) column-accepts in
         record {
-          walk = (quiet, (taken q (quiet .image) set-page on-page (ramAt q k) page-accepts, (page-quiet, (taken q₁ (page-quiet .image) set-column at-start (ramAt q₁ k) column-accepts, all-wrote .walk))));
+          walk = (quiet, (page-taken, (page-quiet, (column-taken, all-wrote .walk))));
           quiet = all-wrote .quiet;
           held = record { byte = λ i h. all-wrote .written i (omega arith) (omega arith) };
           others = λ j i h d held. record { byte = λ at l. others-kept j i h d at l ∙ held .byte at l };

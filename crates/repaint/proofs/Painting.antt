@@ -39,10 +39,20 @@ ram-side q j k e = rw e
 
 then-switches : (a b c : Registers) → Switches a b → Switches b c → Switches a c
 then-switches a b c one two =
-    record { display = one .display ∙ two .display; static = one .static ∙ two .static; duty = one .duty ∙ two .duty; reverse = one .reverse ∙ two .reverse; modify = one .modify ∙ two .modify; line = one .line ∙ two .line }
+    record {
+      display = one .display ∙ two .display;
+      static = one .static ∙ two .static;
+      duty = one .duty ∙ two .duty;
+      reverse = one .reverse ∙ two .reverse;
+      modify = one .modify ∙ two .modify;
+      line = one .line ∙ two .line;
+    }
 
 -- a record that leaves the switches and the shown bytes of its chip leaves the panel quiet
-module _ (p q s : Panel) (k : ℕ) (next : Registers) (bytes : List ℕ) (quiet : Quiet p q) (move : Moved q s k next bytes) (switches : Switches (registers (chipAt q k)) next) (bytes-kept : (at : ℕ) → at / 160 ≡ chipAt p k .«start_line» / 16 → getD bytes at 0 ≡ getD (ramAt q k) at 0) where
+module _
+    (p q s : Panel) (k : ℕ) (next : Registers) (bytes : List ℕ) (quiet : Quiet p q) (move : Moved q s k next bytes)
+    (switches : Switches (registers (chipAt q k)) next)
+    (bytes-kept : (at : ℕ) → at / 160 ≡ chipAt p k .«start_line» / 16 → getD bytes at 0 ≡ getD (ramAt q k) at 0) where
   fit-still : (j : ℕ) → Fit (chipAt s j) (ramAt s j)
   fit-still j =
       ⊎-elim
@@ -68,7 +78,9 @@ module _ (p q s : Panel) (k : ℕ) (next : Registers) (bytes : List ℕ) (quiet 
   quiet-moved = record { image = move .image; fit = fit-still; still = still }
 
 -- n writes from the j-th column of a hidden page on, by a chip whose column stands there
-module _ (p : Panel) (c : Chip) (k : ℕ) (chip : k < 2) (picture : List ℕ) (row : ℕ) (a : Registers) (page base : ℕ) (near : page < 4) (hidden : page / 2 ≡ chipAt p k .«start_line» / 16 → ⊥) where
+module _
+    (p : Panel) (c : Chip) (k : ℕ) (chip : k < 2) (picture : List ℕ) (row : ℕ) (a : Registers) (page base : ℕ) (near : page < 4)
+    (hidden : page / 2 ≡ chipAt p k .«start_line» / 16 → ⊥) where
   abbrev byte : ℕ → ℕ
   byte j = pictureByte picture k (segmentOf c j) row
 
@@ -118,7 +130,8 @@ module _ (p : Panel) (c : Chip) (k : ℕ) (chip : k < 2) (picture : List ℕ) (r
     write-keeps : (at : ℕ) → (at ≡ ramIndex page (base + j) → ⊥) → getD (ramAt (stepped q write) k) at 0 ≡ getD (ramAt q k) at 0
     write-keeps at d = rw (write-moved .stored) (getD-set-other (ramAt q k) (ramIndex page (base + j)) at (byte j) 0 d)
 
-  pub wrote : (n j : ℕ) (q : Panel) → Quiet p q → registers (chipAt q k) ≡ placed a page (base + j) → base + (j + n) ≤ 80 → Wrote q (after q (writes c k picture row j n)) j n
+  pub wrote : (n j : ℕ) (q : Panel) → Quiet p q → registers (chipAt q k) ≡ placed a page (base + j) → base + (j + n) ≤ 80
+      → Wrote q (after q (writes c k picture row j n)) j n
   unfolding Walk after writes
   wrote zero j q quiet place room =
       let none : j + 0 ≡ j = omega arith in
@@ -136,14 +149,16 @@ module _ (p : Panel) (c : Chip) (k : ℕ) (chip : k < 2) (picture : List ℕ) (r
       let first = write-moved q j quiet place below in
       let next : base + j + 1 ≡ base + (j + 1) = omega arith in
       let more : j + 1 + n ≡ j + suc n = omega arith in
-      let rest = wrote n (j + 1) (stepped q (write q j quiet place below)) (write-quiet q j quiet place below) (first .shown ∙ rw next) (omega arith) in
+      let quiet-next = write-quiet q j quiet place below in
+      let rest = wrote n (j + 1) (stepped q (write q j quiet place below)) quiet-next (first .shown ∙ rw next) (omega arith) in
       record {
         walk = (quiet, (write-taken q j quiet place below, rest .walk));
         quiet = rest .quiet;
         place = rest .place ∙ rw more;
         written = λ i l h.
             ⊎-elim
-            (λ t. let e : i ≡ j = omega (arith, ltb-true i (j + 1) t) in rw e (rest .kept (ramIndex page (base + j)) (inl (omega arith)) ∙ write-stands q j quiet place below))
+            (λ t. let e : i ≡ j = omega (arith, ltb-true i (j + 1) t) in
+            rw e (rest .kept (ramIndex page (base + j)) (inl (omega arith)) ∙ write-stands q j quiet place below))
             (λ t. rest .written i (omega (arith, ltb-false i (j + 1) t)) (omega arith))
             (tested (ltb i (j + 1)));
         kept = λ at side.

@@ -16,7 +16,8 @@ use Rattle.sed1520.specs.Laws.{Registers, registers, Fit}
 use Rattle.sed1520.specs.declared.registers.Chip.{Chip}
 use Rattle.sed1520.proofs.Tests.{tested, either, both, when}
 use Rattle.sed1520.proofs.PanelLaws.{every-half-whole}
-use Rattle.frame.specs.Laws.{firstColumn, showsRam, SameShown}
+use Rattle.frame.specs.Frame.{segments, columns, frameBytes, columnOf}
+use Rattle.frame.specs.Laws.{firstColumn, showsRam, byteShown, SameShown}
 use Rattle.frame.proofs.HalfLaws.{half-laws}
 use Rattle.repaint.specs.TearFree.{Ready, BothReady, SameHalf}
 use Rattle.repaint.proofs.Frames.{frameAt}
@@ -32,11 +33,24 @@ pub record Switches (a b : Registers) : Type 0 where
 
 -- registers with another page and column
 abbrev pub placed : Registers → ℕ → ℕ → Registers
-placed a page column = record { display = a .display; static = a .static; duty = a .duty; reverse = a .reverse; modify = a .modify; page = page; line = a .line; column = column }
+placed a page column =
+    record {
+      display = a .display;
+      static = a .static;
+      duty = a .duty;
+      reverse = a .reverse;
+      modify = a .modify;
+      page = page;
+      line = a .line;
+      column = column;
+    }
 
 -- wherever page and column stand, the switches are the same
 pub placed-switches : (a : Registers) (page column page′ column′ : ℕ) → Switches (placed a page column) (placed a page′ column′)
 placed-switches a page column page′ column′ = record { display = refl; static = refl; duty = refl; reverse = refl; modify = refl; line = refl }
+
+pub same-switches : (a : Registers) → Switches a a
+same-switches a = placed-switches a (a .page) (a .column) (a .page) (a .column)
 
 -- one half shows what it showed: equal switches, equal bytes in the shown pages
 pub record Still (c d : Chip) (ram other : List ℕ) : Type 0 where
@@ -54,7 +68,11 @@ pub ready-at : (p : Panel) → BothReady p → (k : ℕ) → Ready (chipAt p k)
 ready-at p ready k = when Ready (eqb k 0) (λ _. ready .left) (λ _. ready .right)
 
 pub line-of : (c : Chip) → Ready c → (c .«start_line» ≡ 0) ⊎ (c .«start_line» ≡ 16)
-line-of c ready = ⊎-elim (λ t. inl (eqb-true (c .«start_line») 0 t)) (λ t. inr (eqb-true (c .«start_line») 16 t)) (either (eqb (c .«start_line») 0) (eqb (c .«start_line») 16) (ready .line))
+line-of c ready =
+    ⊎-elim
+    (λ t. inl (eqb-true (c .«start_line») 0 t))
+    (λ t. inr (eqb-true (c .«start_line») 16 t))
+    (either (eqb (c .«start_line») 0) (eqb (c .«start_line») 16) (ready .line))
 
 -- at duty 1/16 only rows 0 to 15 show RAM
 upper-row : (c : Chip) (row : ℕ) → c .«duty_32» ≡ false → showsRam c row ≡ true → row < 16
@@ -70,17 +88,25 @@ row-inside line row column h r c = ⊎-elim (λ e. omega arith) (λ e. omega ari
 
 -- such a half of the frame is as it was
 module _ (p q : Panel) (ready : BothReady p) (k : ℕ) (still : Still (chipAt p k) (chipAt q k) (ramAt p k) (ramAt q k)) where
-  same-shown : (n : ℕ) → n < 61 → SameShown (chipAt p k) (chipAt q k) (ramAt p k) (ramAt q k) n
+  abbrev c : Chip
+  c = chipAt p k
+
+  row-kept : (n row : ℕ) → n < segments → showsRam c row ≡ true → byteShown c (ramAt p k) n row ≡ byteShown c (ramAt q k) n row
+  row-kept n row h shows =
+      let own = ready-at p ready k in
+      let inside = row-inside (c .«start_line») row (columnOf c n) (line-of c own) (upper-row c row (own .duty) shows) (half-laws .near c n h) in
+      sym (still .kept (ramIndex ((c .«start_line» + row) % 32 / 8) (columnOf c n)) inside)
+
+  same-shown : (n : ℕ) → n < segments → SameShown (chipAt p k) (chipAt q k) (ramAt p k) (ramAt q k) n
   same-shown n h =
       let same = still .switches in
-      let c = ready-at p ready k in
       record {
         display = same .display;
         static = same .static;
         duty = same .duty;
         direction = same .reverse;
         line = same .line;
-        bytes = λ row below shows. sym (still .kept _ (row-inside (chipAt p k .«start_line») row _ (line-of (chipAt p k) c) (upper-row (chipAt p k) row (c .duty) shows) (half-laws .near (chipAt p k) n h)));
+        bytes = λ row below shows. row-kept n row h shows;
       }
 
   pub half-same : SameHalf k (frameAt q) (frameAt p)
@@ -94,26 +120,30 @@ module _ (p q : Panel) (ready : BothReady p) (k : ℕ) (still : Still (chipAt p 
 
 -- every place of a frame lies in a half
 module _ (one other : List ℕ) (left : SameHalf 0 one other) (right : SameHalf 1 one other) where
-  at-place : (i : ℕ) → i < 488 → getD one i 0 ≡ getD other i 0
+  at-place : (i : ℕ) → i < frameBytes → getD one i 0 ≡ getD other i 0
   at-place i h =
       ⊎-elim
-      (λ t. let l = ltb-true (i % 122) 61 t in
-      let e : firstColumn 0 + i % 122 + 122 * (i / 122) ≡ i = omega arith in
-      rw e at (left .at (i % 122) (i / 122) l (omega arith)))
-      (λ t. let l = ltb-false (i % 122) 61 t in
-      let e : firstColumn 1 + (i % 122 - 61) + 122 * (i / 122) ≡ i = omega arith in
-      rw e at (right .at (i % 122 - 61) (i / 122) (omega arith) (omega arith)))
-      (tested (ltb (i % 122) 61))
+      (λ t. let l = ltb-true (i % columns) segments t in
+      let e : firstColumn 0 + i % columns + columns * (i / columns) ≡ i = omega arith in
+      rw e at (left .at (i % columns) (i / columns) l (omega arith)))
+      (λ t. let l = ltb-false (i % columns) segments t in
+      let e : firstColumn 1 + (i % columns - segments) + columns * (i / columns) ≡ i = omega arith in
+      rw e at (right .at (i % columns - segments) (i / columns) (omega arith) (omega arith)))
+      (tested (ltb (i % columns) segments))
 
-  pub halves-same : length one ≡ 488 → length other ≡ 488 → one ≡ other
+  pub halves-same : length one ≡ frameBytes → length other ≡ frameBytes → one ≡ other
   halves-same h l = ext-getD 0 one other (h ∙ sym l) (λ i below. at-place i (omega arith))
 
-pub frame-length : (p : Panel) → length (frameAt p) ≡ 488
+pub frame-length : (p : Panel) → length (frameAt p) ≡ frameBytes
 frame-length p = half-laws .whole (p .left) (p .right) (p .ram)
 
 pub quiet-frame : (p q : Panel) → BothReady p → Quiet p q → frameAt q ≡ frameAt p
 quiet-frame p q ready quiet =
-    halves-same (frameAt q) (frameAt p) (half-same p q ready 0 (quiet .still 0)) (half-same p q ready 1 (quiet .still 1)) (frame-length q) (frame-length p)
+    halves-same (frameAt q) (frameAt p)
+    (half-same p q ready 0 (quiet .still 0))
+    (half-same p q ready 1 (quiet .still 1))
+    (frame-length q)
+    (frame-length p)
 
 -- a panel is quiet where it begins
 pub quiet-at-start : (p : Panel) → BothReady p → Quiet p p
@@ -121,7 +151,7 @@ quiet-at-start p ready =
     record {
       image = ready .ram;
       fit = λ k. record { range = ready-at p ready k .range; bytes = every-half-whole p (ready .ram) k };
-      still = λ k. record { switches = placed-switches (registers (chipAt p k)) (chipAt p k .page) (chipAt p k .column) (chipAt p k .page) (chipAt p k .column); kept = λ at h. refl };
+      still = λ k. record { switches = same-switches (registers (chipAt p k)); kept = λ at h. refl };
     }
 
 -- the same switches leave a chip ready

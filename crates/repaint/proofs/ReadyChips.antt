@@ -22,9 +22,13 @@ line-right c ready = right (eqb (c .«start_line») 0) (eqb (c .«start_line») 
 ready-answer : (left right : Chip) → Ready left → Ready right → chipsAnswer left right ≡ answer 0 254
 unfolding chipsAnswer
 ready-answer left right l r =
-    rw (l .range, r .range, l .display, r .display, l .static, r .static, l .duty, r .duty, line-right left l, line-right right r, l .modify, r .modify)
+    let left-line = line-right left l in
+    let right-line = line-right right r in
+    rw (l .range, r .range, l .display, r .display, l .static, r .static, l .duty, r .duty, left-line, right-line, l .modify, r .modify)
 
-pub ready-outcome : (left right : Chip) → Ready left → Ready right → (picture buffer : List ℕ) → sizesWrong (length picture) (length buffer) ≡ false → repaintOf left right picture buffer ≡ given (answer 0 254) (bytesOf (recordsOf left right picture) ++ drop 1016 buffer)
+pub ready-outcome : (left right : Chip) → Ready left → Ready right
+    → (picture buffer : List ℕ) → sizesWrong (length picture) (length buffer) ≡ false
+    → repaintOf left right picture buffer ≡ given (answer 0 254) (bytesOf (recordsOf left right picture) ++ drop 1016 buffer)
 ready-outcome left right l r picture buffer sizes =
     let ready = ready-answer left right l r in
     rw ready at (painted left right picture buffer sizes (rw ready))

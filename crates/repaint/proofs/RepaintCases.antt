@@ -10,7 +10,8 @@ use borrow.Author.Tests.{eqb-true, ltb-false, not-false, eq-eqb, ne-eqb}
 use Rattle.sed1520.specs.Chip.{inRange}
 use Rattle.sed1520.specs.declared.registers.Chip.{Chip}
 use Rattle.sed1520.proofs.Tests.{neither, when}
-use Rattle.repaint.specs.Repaint.{recordsOf, bytesOf, sizesWrong, notShowing, wrongLine, firstOf, answer, unless, chipsAnswer, Outcome, given, repaintOf}
+use Rattle.repaint.specs.Repaint.{recordsOf, bytesOf, sizesWrong, notShowing, wrongLine, firstOf, answer, unless, chipsAnswer}
+use Rattle.repaint.specs.Repaint.{Outcome, given, repaintOf}
 use Rattle.repaint.specs.declared.Repainted.{Repainted}
 
 -- both sizes are right
@@ -30,7 +31,8 @@ module _ (left right : Chip) (picture buffer : List ℕ) where
   wrong-size e = rw e
 
   module _ (sizes : sizesWrong (length picture) (length buffer) ≡ false) where
-    pub painted : chipsAnswer left right .number ≡ 0 → repaintOf left right picture buffer ≡ given (chipsAnswer left right) (bytesOf (recordsOf left right picture) ++ drop 1016 buffer)
+    pub painted : chipsAnswer left right .number ≡ 0
+        → repaintOf left right picture buffer ≡ given (chipsAnswer left right) (bytesOf (recordsOf left right picture) ++ drop 1016 buffer)
     unfolding repaintOf
     painted e = rw (sizes, eq-eqb (chipsAnswer left right .number) 0 e)
 
@@ -60,9 +62,11 @@ short-answer left right =
 
 pub places-small : (left right : Chip) (picture buffer : List ℕ) → repaintOf left right picture buffer .answer .place < 65536
 unfolding repaintOf Short
-places-small left right picture buffer = when (λ (o : Outcome). Short (o .answer)) (sizesWrong (length picture) (length buffer)) (λ _. omega arith) (λ _. short-answer left right)
+places-small left right picture buffer =
+    when (λ (o : Outcome). Short (o .answer)) (sizesWrong (length picture) (length buffer)) (λ _. omega arith) (λ _. short-answer left right)
 
-pub place-small : (left right : Chip) (picture buffer : List ℕ) {a : Repainted} {after : List ℕ} → given a after ≡ repaintOf left right picture buffer → a .place < 65536
+pub place-small : (left right : Chip) (picture buffer : List ℕ) {a : Repainted} {after : List ℕ}
+    → given a after ≡ repaintOf left right picture buffer → a .place < 65536
 place-small left right picture buffer e =
     let place = ap (λ (o : Outcome). o .answer .place) e in
     omega (arith, places-small left right picture buffer)

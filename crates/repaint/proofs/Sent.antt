@@ -1,5 +1,5 @@
 -- The records of a buffer are those that were written to its front.
-use Prim.Native.Nat.{ℕ, zero, suc, _+_, _*_, _<_, _≤_}
+use Prim.Native.Nat.{ℕ, zero, suc, _*_, _<_, _≤_}
 use native.Mathlib.Omega.{arith}
 use mathlib.Core.Path.{_≡_, refl, ap}
 use mathlib.Core.List.{List, [], _∷_, _++_}
@@ -17,7 +17,8 @@ records-back [] rest (suc k) h = absurd (omega arith)
 records-back (r ∷ rs) rest (suc k) h = ap (λ (l : List Record). r ∷ l) (records-back rs rest k (omega arith))
 
 -- each of them is accepted in its turn
-pub walk-taken : (Holds : Panel → Type 0) (p : Panel) (rs : List Record) (rest : List ℕ) → Walk Holds p rs → (k : ℕ) → k < length rs → Taken (after p (take k rs)) (front (drop (4 * k) (bytesOf rs ++ rest)))
+pub walk-taken : (Holds : Panel → Type 0) (p : Panel) (rs : List Record) (rest : List ℕ) → Walk Holds p rs → (k : ℕ) → k < length rs
+    → Taken (after p (take k rs)) (front (drop (4 * k) (bytesOf rs ++ rest)))
 unfolding Walk after bytesOf
 walk-taken Holds p [] rest walk k h = absurd (omega arith)
 walk-taken Holds p (r ∷ rs) rest walk zero h = walk .1 .0

@@ -19,7 +19,9 @@ pub record Moved (p q : Panel) (k : ℕ) (next : Registers) (bytes : List ℕ) :
   pub other-ram : (j : ℕ) → (eqb j 0 ≡ eqb k 0 → ⊥) → ramAt q j ≡ ramAt p j
   pub image : length (q .ram) ≡ 640
 
-module _ (p : Panel) (image : length (p .ram) ≡ 640) (r : Record) (next : Registers) (bytes : List ℕ) (accepts : Accepts r (chipAt p (r .chip)) (ramAt p (r .chip)) next bytes) where
+module _
+    (p : Panel) (image : length (p .ram) ≡ 640) (r : Record) (next : Registers) (bytes : List ℕ)
+    (accepts : Accepts r (chipAt p (r .chip)) (ramAt p (r .chip)) next bytes) where
   pub taken : Taken p r
   taken =
       let own = every-record-apart p image r .own-cycle in

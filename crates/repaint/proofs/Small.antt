@@ -4,10 +4,11 @@ use native.Mathlib.Omega.{arith}
 use lib.Dec.{eqb}
 use Rattle.sed1520.specs.declared.registers.Chip.{Chip}
 use Rattle.sed1520.proofs.Tests.{when}
+use Rattle.frame.specs.Frame.{segments}
 use Rattle.repaint.specs.Repaint.{hiddenPage, lowestColumn, segmentOf, turnedLine}
 
-pub segment-small : (c : Chip) (j : ℕ) → j < 61 → segmentOf c j < 61
-segment-small c j h = when (λ (n : ℕ). n < 61) (c .reverse) (λ _. omega arith) (λ _. omega arith)
+pub segment-small : (c : Chip) (j : ℕ) → j < segments → segmentOf c j < segments
+segment-small c j h = when (λ (n : ℕ). n < segments) (c .reverse) (λ _. omega arith) (λ _. omega arith)
 
 pub page-small : (c : Chip) (r : ℕ) → r < 2 → hiddenPage c r < 4
 page-small c r h = when (λ (n : ℕ). n < 4) (eqb (c .«start_line») 0) (λ _. omega arith) (λ _. omega arith)

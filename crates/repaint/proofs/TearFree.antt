@@ -4,15 +4,17 @@ use native.Mathlib.Omega.{arith}
 use mathlib.Core.Path.{_≡_, sym, ap, _∙_}
 use mathlib.Core.Bool.{true, false}
 use mathlib.Core.List.{List, [], _∷_, _++_}
-use mathlib.Core.Logic.{_⊎_, ⊎-elim}
+use mathlib.Core.Logic.{⊎-elim}
 use lib.ListN.{length, take, drop, replicate, length-append, length-replicate}
 use lib.Seq.{take-append-le}
 use Rattle.sed1520.specs.Panel.{Panel, after}
 use Rattle.sed1520.specs.Records.{front}
 use Rattle.sed1520.specs.declared.bus.Record.{Record}
 use Rattle.sed1520.proofs.Tests.{tested}
+use Rattle.frame.specs.Frame.{frameBytes}
 use Rattle.repaint.specs.Repaint.{pagesOf, turnsOf, recordsOf, bytesOf, sizesWrong, answer, given}
-use Rattle.repaint.specs.TearFree.{BothReady, Request, asked, sentSoFar, leaves, shown, wanted, SameHalf, Refused, Accepted, Safe, AllSafe, TearFree}
+use Rattle.repaint.specs.TearFree.{BothReady, Request, asked, sentSoFar, leaves, shown, wanted, SameHalf}
+use Rattle.repaint.specs.TearFree.{Refused, Accepted, Safe, AllSafe, TearFree}
 use Rattle.repaint.proofs.Frames.{frameAt, shown-frame, frame-given}
 use Rattle.repaint.proofs.Walk.{Taken, walk-holds}
 use Rattle.repaint.proofs.Quiet.{Quiet, half-same, halves-same, frame-length, quiet-frame}
@@ -30,7 +32,13 @@ module _ (p : Panel) (ready : BothReady p) (q : Request) where
   refused : sizesWrong (length (q .picture)) (length (q .buffer)) ≡ true → Refused p q
   refused e =
       let given-back = wrong-size (p .left) (p .right) (q .picture) (q .buffer) e in
-      record { number = rw given-back; place = rw given-back; buffer = rw given-back; stays = rw given-back; frame = frame-given p ready }
+      record {
+        number = rw given-back;
+        place = rw given-back;
+        buffer = rw given-back;
+        stays = rw given-back;
+        frame = frame-given p ready;
+      }
 
   module _ (sizes : sizesWrong (length (q .picture)) (length (q .buffer)) ≡ false) where
     size : length (q .picture) ≡ 244
@@ -71,31 +79,35 @@ module _ (p : Panel) (ready : BothReady p) (q : Request) where
         rw (stop k (omega arith), take-append-le k pages (turnsOf (p .left) (p .right)) within)
         (quiet-frame p (after p (take k pages)) ready (walk-holds (Quiet p) p pages (pages-quiet p ready (q .picture)) k within))
 
-    at-half : sentSoFar p q 253 ≡ half-way p ready (q .picture)
+    -- the panel between the last two cycles, and after both
+    abbrev between : Panel
+    between = half-way p ready (q .picture)
+
+    abbrev end : Panel
+    end = done p ready (q .picture)
+
+    at-half : sentSoFar p q 253 ≡ between
     at-half = stop 253 (omega arith) ∙ after-253 p ready (q .picture)
 
-    at-end : sentSoFar p q 254 ≡ done p ready (q .picture)
+    at-end : sentSoFar p q 254 ≡ end
     at-end = stop 254 (omega arith) ∙ after-254 p ready (q .picture)
 
-    wanted-length : length (wanted (q .picture)) ≡ 488
+    left-wanted : SameHalf 0 (frameAt between) (wanted (q .picture))
+    left-wanted = half-wanted (p .left) 0 (q .picture) size (q .bytes) between (left-half p ready (q .picture))
+
+    right-kept : SameHalf 1 (frameAt between) (frameAt p)
+    right-kept = half-same p between ready 1 (right-still p ready (q .picture))
+
+    wanted-length : length (wanted (q .picture)) ≡ frameBytes
     wanted-length = padded (q .picture) 244 ∙ rw size
 
-    all-wanted : frameAt (done p ready (q .picture)) ≡ wanted (q .picture)
+    all-wanted : frameAt end ≡ wanted (q .picture)
     all-wanted =
-        let end = done p ready (q .picture) in
         halves-same (frameAt end) (wanted (q .picture))
         (half-wanted (p .left) 0 (q .picture) size (q .bytes) end (left-done p ready (q .picture)))
         (half-wanted (p .right) 1 (q .picture) size (q .bytes) end (right-done p ready (q .picture)))
         (frame-length end)
         wanted-length
-
-    -- the two halves between the last two cycles
-    left-wanted : SameHalf 0 (frameAt (half-way p ready (q .picture))) (wanted (q .picture))
-    left-wanted =
-        half-wanted (p .left) 0 (q .picture) size (q .bytes) (half-way p ready (q .picture)) (left-half p ready (q .picture))
-
-    right-kept : SameHalf 1 (frameAt (half-way p ready (q .picture))) (frameAt p)
-    right-kept = half-same p (half-way p ready (q .picture)) ready 1 (right-still p ready (q .picture))
 
     accepted : Accepted p q
     accepted =

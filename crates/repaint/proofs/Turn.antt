@@ -6,8 +6,8 @@ use mathlib.Core.Bool.{Bool, true, false}
 use mathlib.Core.List.{List}
 use mathlib.Core.Logic.{_⊎_, inl, inr, ⊎-elim}
 use lib.Dec.{eqb, ltb}
-use lib.ListN.{length, getD, replicate, getD-replicate}
-use lib.Seq.{getD-take, take-at, getD-append-add}
+use lib.ListN.{length, getD, replicate, getD-replicate, List·getD-append}
+use lib.Seq.{getD-append-add}
 use borrow.Author.Tests.{ltb-true, ltb-false}
 use Rattle.sed1520.specs.Choice.{if}
 use Rattle.sed1520.specs.Chip.{withStartLine}
@@ -17,7 +17,7 @@ use Rattle.sed1520.specs.Laws.{Registers, registers, Fit, Accepts}
 use Rattle.sed1520.specs.declared.registers.Chip.{Chip}
 use Rattle.sed1520.proofs.CycleLaws.{cycle-laws}
 use Rattle.sed1520.proofs.Tests.{tested, when}
-use Rattle.frame.specs.Frame.{columnOf, frameByte}
+use Rattle.frame.specs.Frame.{segments, columns, columnOf, frameByte}
 use Rattle.frame.specs.Laws.{firstColumn, TwoPages}
 use Rattle.frame.proofs.HalfLaws.{half-laws}
 use Rattle.repaint.specs.Repaint.{hiddenPage, lowestColumn, segmentOf, pictureByte, turnedLine, turn}
@@ -48,55 +48,70 @@ turned-page c r = at (eqb (c .«start_line») 0)
     at false = omega arith
 
 -- segments and columns in one direction are each other's
-segment-column : (c : Chip) (n : ℕ) → n < 61 → columnOf c n ≡ lowestColumn c + segmentOf c n
+segment-column : (c : Chip) (n : ℕ) → n < segments → columnOf c n ≡ lowestColumn c + segmentOf c n
 segment-column c n h = at (c .reverse)
   where
     at : (t : Bool) → if t (79 - n) n ≡ if t 19 0 + if t (60 - n) n
     at true = omega arith
     at false = omega arith
 
-segment-twice : (c : Chip) (n : ℕ) → n < 61 → segmentOf c (segmentOf c n) ≡ n
+segment-twice : (c : Chip) (n : ℕ) → n < segments → segmentOf c (segmentOf c n) ≡ n
 segment-twice c n h = at (c .reverse)
   where
     at : (t : Bool) → if t (60 - if t (60 - n) n) (if t (60 - n) n) ≡ n
     at true = omega arith
     at false = refl
 
-first-near : (k : ℕ) → firstColumn k ≤ 61
-first-near k = when (λ n. n ≤ 61) (eqb k 0) (λ _. omega arith) (λ _. omega arith)
+first-near : (k : ℕ) → firstColumn k ≤ segments
+first-near k = when (λ n. n ≤ segments) (eqb k 0) (λ _. omega arith) (λ _. omega arith)
 
 -- the upper bytes of the frame that a picture asks for are the picture's, the lower ones 0
 upper-wanted : (picture : List ℕ) (i : ℕ) → length picture ≡ 244 → i < 244 → getD (wanted picture) i 0 ≡ getD picture i 0
-upper-wanted picture i size h = sym (getD-take 244 (wanted picture) i 0 h) ∙ ap (λ (l : List ℕ). getD l i 0) (take-at picture (replicate 244 0) 244 size)
+upper-wanted picture i size h = List·getD-append picture (replicate 244 0) 0 i (omega arith)
 
 lower-wanted : (picture : List ℕ) (i : ℕ) → length picture ≡ 244 → i < 244 → getD (wanted picture) (244 + i) 0 ≡ 0
 lower-wanted picture i size h = let past = getD-append-add picture (replicate 244 0) i 0 in rw size at past ∙ getD-replicate 244 i 0 0 h
 
-module _ (c : Chip) (k : ℕ) (picture : List ℕ) (size : length picture ≡ 244) (bytes : (i : ℕ) → getD picture i 0 < 256) (d : Chip) (ram : List ℕ) (turned : Turned c k picture d ram) where
+module _
+    (c : Chip) (k : ℕ) (picture : List ℕ) (size : length picture ≡ 244) (bytes : (i : ℕ) → getD picture i 0 < 256)
+    (d : Chip) (ram : List ℕ) (turned : Turned c k picture d ram) where
   two-pages : TwoPages d
-  two-pages = record { display = turned .ready .display; static = turned .ready .static; duty = turned .ready .duty; line = rw (turned .line) (turned-line c) }
+  two-pages =
+      let ready = turned .ready in
+      record { display = ready .display; static = ready .static; duty = ready .duty; line = rw (turned .line) (turned-line c) }
 
-  row-shown : (n r : ℕ) → n < 61 → r < 2 → getD ram (ramIndex (d .«start_line» / 8 + r) (columnOf d n)) 0 ≡ pictureByte picture k n r
+  row-shown : (n r : ℕ) → n < segments → r < 2 → getD ram (ramIndex (d .«start_line» / 8 + r) (columnOf d n)) 0 ≡ pictureByte picture k n r
   row-shown n r h l =
       let held = turned .rows r l .byte (segmentOf c n) (segment-small c n h) in
       rw (turned .line, turned .reverse, turned-page c r, segment-column c n h) (held ∙ ap (λ m. pictureByte picture k m r) (segment-twice c n h))
 
-  wanted-byte : (n r : ℕ) → n < 61 → r < 4 → frameByte d ram n r ≡ getD (wanted picture) (firstColumn k + n + 122 * r) 0
+  -- its place in the frame
+  abbrev at : ℕ → ℕ → ℕ
+  at n r = firstColumn k + n + columns * r
+
+  wanted-upper : (n r : ℕ) → n < segments → r < 2 → frameByte d ram n r ≡ getD (wanted picture) (at n r) 0
+  wanted-upper n r h l =
+      let byte : getD picture (at n r) 0 % 256 ≡ getD picture (at n r) 0 = omega (arith, bytes (at n r)) in
+      half-laws .upper d ram n r two-pages l
+      ∙ rw (row-shown n r h l) byte
+      ∙ sym (upper-wanted picture (at n r) size (omega (arith, first-near k)))
+
+  wanted-lower : (n r : ℕ) → n < segments → r < 4 → 2 ≤ r → frameByte d ram n r ≡ getD (wanted picture) (at n r) 0
+  wanted-lower n r h l below =
+      let past : at n r ≡ 244 + at n (r - 2) = omega arith in
+      half-laws .lower d ram n r two-pages below
+      ∙ sym (rw past (lower-wanted picture (at n (r - 2)) size (omega (arith, first-near k))))
+
+  wanted-byte : (n r : ℕ) → n < segments → r < 4 → frameByte d ram n r ≡ getD (wanted picture) (at n r) 0
   wanted-byte n r h l =
       ⊎-elim
-      (λ t. let upper = ltb-true r 2 t in
-      let small = bytes (firstColumn k + n + 122 * r) in
-      half-laws .upper d ram n r two-pages upper
-      ∙ rw (row-shown n r h upper) (let same : getD picture (firstColumn k + n + 122 * r) 0 % 256 ≡ getD picture (firstColumn k + n + 122 * r) 0 = omega (arith, small) in same)
-      ∙ sym (upper-wanted picture (firstColumn k + n + 122 * r) size (omega (arith, first-near k, upper))))
-      (λ t. let lower = ltb-false r 2 t in
-      let past : firstColumn k + n + 122 * r ≡ 244 + (firstColumn k + n + 122 * (r - 2)) = omega (arith, lower) in
-      half-laws .lower d ram n r two-pages lower
-      ∙ sym (rw past (lower-wanted picture (firstColumn k + n + 122 * (r - 2)) size (omega (arith, first-near k)))))
+      (λ t. wanted-upper n r h (ltb-true r 2 t))
+      (λ t. wanted-lower n r h l (ltb-false r 2 t))
       (tested (ltb r 2))
 
 -- such a half is wanted
-pub half-wanted : (c : Chip) (k : ℕ) (picture : List ℕ) → length picture ≡ 244 → ((i : ℕ) → getD picture i 0 < 256) → (t : Panel) → Turned c k picture (chipAt t k) (ramAt t k) → SameHalf k (frameAt t) (wanted picture)
+pub half-wanted : (c : Chip) (k : ℕ) (picture : List ℕ) → length picture ≡ 244 → ((i : ℕ) → getD picture i 0 < 256) → (t : Panel)
+    → Turned c k picture (chipAt t k) (ramAt t k) → SameHalf k (frameAt t) (wanted picture)
 half-wanted c k picture size bytes t turned =
     record { at = λ n r h l. half-laws .place t k n r h l ∙ wanted-byte c k picture size bytes (chipAt t k) (ramAt t k) turned n r h l }
 
@@ -108,7 +123,10 @@ pub record TurnDone (c : Chip) (k : ℕ) (picture : List ℕ) (q s : Panel) : Ty
   pub other-ram : (j : ℕ) → (eqb j 0 ≡ eqb k 0 → ⊥) → ramAt s j ≡ ramAt q j
   pub image : length (s .ram) ≡ 640
 
-module _ (c : Chip) (ready : Ready c) (k : ℕ) (chip : k < 2) (picture : List ℕ) (q : Panel) (image : length (q .ram) ≡ 640) (fit : Fit (chipAt q k) (ramAt q k)) (switches : Switches (registers c) (registers (chipAt q k))) (rows : (r : ℕ) → r < 2 → RowHeld c k picture r (ramAt q k)) where
+module _
+    (c : Chip) (ready : Ready c) (k : ℕ) (chip : k < 2) (picture : List ℕ) (q : Panel) (image : length (q .ram) ≡ 640)
+    (fit : Fit (chipAt q k) (ramAt q k)) (switches : Switches (registers c) (registers (chipAt q k)))
+    (rows : (r : ℕ) → r < 2 → RowHeld c k picture r (ramAt q k)) where
   abbrev next : Registers
   next = registers (withStartLine (turnedLine c) (chipAt q k))
 

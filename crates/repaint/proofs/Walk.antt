@@ -36,7 +36,8 @@ module _ (Holds : Panel → Type 0) where
   walk-holds p (r ∷ rs) walk (suc k) h = walk-holds (stepped p r) rs (walk .1 .1) k (omega arith)
 
 -- what follows from it holds at every stop as well
-pub walk-weaker : (Holds Follows : Panel → Type 0) → ((q : Panel) → Holds q → Follows q) → (p : Panel) (rs : List Record) → Walk Holds p rs → Walk Follows p rs
+pub walk-weaker : (Holds Follows : Panel → Type 0) → ((q : Panel) → Holds q → Follows q)
+    → (p : Panel) (rs : List Record) → Walk Holds p rs → Walk Follows p rs
 unfolding Walk
 walk-weaker Holds Follows then p [] walk = then p walk
 walk-weaker Holds Follows then p (r ∷ rs) walk = (then p (walk .0), (walk .1 .0, walk-weaker Holds Follows then (stepped p r) rs (walk .1 .1)))

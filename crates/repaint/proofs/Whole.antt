@@ -2,7 +2,7 @@
 use Prim.Native.Nat.{ℕ, zero, suc, _+_, _<_}
 use native.Mathlib.Omega.{arith}
 use mathlib.Core.Path.{_≡_, _∙_}
-use mathlib.Core.Bool.{true, false, true≢false, false≢true}
+use mathlib.Core.Bool.{true≢false, false≢true}
 use mathlib.Core.List.{List, _++_}
 use lib.ListN.{take}
 use lib.Seq.{take-append-add}
@@ -104,7 +104,8 @@ module _ (p : Panel) (ready : BothReady p) (picture : List ℕ) where
 
   right-turn : TurnDone (p .right) 1 picture half-way done
   right-turn =
-      turn-done (p .right) (ready .right) 1 (omega arith) picture half-way (left-turn .image) right-fit (right-still .switches) (λ r h. rw right-ram (right-rows r h))
+      turn-done (p .right) (ready .right) 1 (omega arith) picture half-way (left-turn .image) right-fit (right-still .switches)
+      (λ r h. rw right-ram (right-rows r h))
 
   -- both halves at the end, the left one as the right turn leaves it
   pub left-half : Turned (p .left) 0 picture (chipAt half-way 0) (ramAt half-way 0)

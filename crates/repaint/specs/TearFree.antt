@@ -1,6 +1,7 @@
--- Demand 3 of the minutes: of a repaint's 254 cycles only the last two change what the panel shows, the left half first. So only between these two does it
--- tear (document 00: a mixed name); stopped just there, it stays so until a later repaint is sent whole. One statement about a whole list of repaints, from
--- any panel whose chips are both ready, each repaint beginning where the one before it left the panel, each stopped after any whole cycle.
+-- Demand 3 of the minutes: of a repaint's 254 cycles only the last two change what the panel shows, the left half first. So only between these
+-- two does it tear (document 00: a mixed name); stopped just there, it stays so until a later repaint is sent whole. One statement about a whole
+-- list of repaints, from any panel whose chips are both ready, each repaint beginning where the one before it left the panel, each stopped after
+-- any whole cycle.
 use Prim.Native.Nat.{ℕ, _+_, _*_, _≤_, _<_}
 use mathlib.Core.Path.{_≡_}
 use mathlib.Core.Bool.{true, false, _||_}
@@ -55,8 +56,9 @@ leaves p q = if (eqb (asked p q .answer .number) 0) (sentSoFar p q (q .stop)) p
 unfoldable pub shown : Panel → List ℕ
 shown p = framed (p .left) (p .right) (p .ram) (replicate frameBytes 0) .frame
 
--- that call is done, with place 488 and the same bytes, into any buffer of 488
+-- these are 488 bytes, and the call gives them, with number 0 and place 488, into any buffer of 488
 pub record FrameGiven (p : Panel) : Type 0 where
+  pub bytes : length (shown p) ≡ frameBytes
   pub given : (buffer : List ℕ) → length buffer ≡ frameBytes → framed (p .left) (p .right) (p .ram) buffer ≡ outcome 0 frameBytes (shown p)
 
 -- the frame that a picture asks for: the picture in the upper 16 rows, the lower 16 dark
@@ -75,8 +77,8 @@ pub record Refused (p : Panel) (q : Request) : Type 0 where
   pub stays : leaves p q ≡ p
   pub frame : FrameGiven p
 
--- accepted: every sent cycle accepted, both chips ready and the frame given before the first and after each, and only the last two cycles change what
--- is shown, each its own half
+-- accepted: every sent cycle accepted, both chips ready and the frame given before the first and after each, and only the last two cycles change
+-- what is shown, each its own half
 pub record Accepted (p : Panel) (q : Request) : Type 0 where
   pub number : asked p q .answer .number ≡ 0
   pub place : asked p q .answer .place ≡ 254
@@ -91,7 +93,8 @@ pub record Accepted (p : Panel) (q : Request) : Type 0 where
 -- what is promised of one repaint: it is refused exactly when a size is wrong
 abbrev pub Safe : Panel → Request → Type 0
 Safe p q =
-    (sizesWrong (length (q .picture)) (length (q .buffer)) ≡ true → Refused p q) × (sizesWrong (length (q .picture)) (length (q .buffer)) ≡ false → Accepted p q)
+    (sizesWrong (length (q .picture)) (length (q .buffer)) ≡ true → Refused p q)
+    × (sizesWrong (length (q .picture)) (length (q .buffer)) ≡ false → Accepted p q)
 
 -- every repaint of the list, and, begun afresh from the panel that the list leaves, any other one; a panel in the middle of a repaint is left by the
 -- list that ends with that repaint stopped there

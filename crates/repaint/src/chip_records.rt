@@ -3,8 +3,10 @@ ghost use Prim.Native.Nat.{_<_, _≤_};
 ghost use mathlib.Core.Path.{_≡_};
 ghost use mathlib.Core.List.{_++_};
 ghost use lib.ListN.{length, drop};
-ghost use Rattle.repaint.specs.Repaint.{hiddenPage, lowestColumn, segmentOf, pictureByte, writes, pageRecords, turnedLine, turn, bytesOf, recordBytes};
+ghost use Rattle.repaint.specs.Repaint.{hiddenPage, lowestColumn, segmentOf, pictureByte, writes, pageRecords};
+ghost use Rattle.repaint.specs.Repaint.{turnedLine, turn, bytesOf, recordBytes};
 ghost use Rattle.sed1520.specs.Laws.{sent};
+ghost use Rattle.frame.specs.Frame.{segments};
 use sed1520::commands::Kind;
 use sed1520::registers::Chip;
 
@@ -36,7 +38,7 @@ fn lowest_column(chip: Chip) -> u8
 
 // The segment that is shown from the j-th of these columns.
 fn segment_of(chip: Chip, j: usize) -> usize
-    requires { ⌜ j < 61 ⌝ }
+    requires { ⌜ j < segments ⌝ }
     ensures { λ r. ⌜ r ≡ segmentOf chip j ⌝ }
 {
     if chip.reverse {
@@ -49,7 +51,7 @@ fn segment_of(chip: Chip, j: usize) -> usize
 // The picture's byte of a chip's segment in a row.
 fn picture_byte(picture: &[u8], which: u8, n: usize, row: u8) -> u8
     requires { ⌜ length (now picture) ≡ 244 ⌝ }
-    requires { ⌜ n < 61 ⌝ }
+    requires { ⌜ n < segments ⌝ }
     requires { ⌜ row < 2 ⌝ }
     ensures { λ r. ⌜ r ≡ pictureByte (now (picture .entry)) which n row ⌝ }
 {
@@ -62,7 +64,7 @@ fn put_writes(chip: Chip, which: u8, picture: &[u8], row: u8, output: &mut [u8])
     requires { ⌜ length (now picture) ≡ 244 ⌝ }
     requires { ⌜ row < 2 ⌝ }
     requires { ⌜ 244 ≤ length (now output) ⌝ }
-    ensures { λ _. ⌜ now (output .exit) ≡ bytesOf (writes chip which (now (picture .entry)) row 0 61) ++ drop 244 (now (output .entry)) ⌝ }
+    ensures { λ _. ⌜ now (output .exit) ≡ bytesOf (writes chip which (now (picture .entry)) row 0 segments) ++ drop 244 (now (output .entry)) ⌝ }
 {
     let mut j = 0;
     while j < Chip::SEGMENTS {

@@ -2,7 +2,7 @@
 use native.Mathlib.Omega.{arith}
 use Prim.Native.Nat.{_-_}
 use mathlib.Core.Path.{sym, _∙_}
-use lib.ListN.{length, length-take, length-drop}
+use lib.ListN.{length-take, length-drop}
 use Rattle.frame.specs.Frame.{frameRow, frameOf}
 use Rattle.frame.proofs.Rows.{Rows, no-rows, row-more, all-rows}
 use Rattle.frame.proofs.Halves.{row-length}

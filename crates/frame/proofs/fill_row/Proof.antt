@@ -41,7 +41,9 @@ returns c =
     let first = second .before .before .before .before .before in
     let start = first .before .before .before .before .before in
     let at = start .args in
-    row-filled (at .left) (at .right) (at .ram .now) (at .r) (at .row .now) _ _ (start .pre .1 .1) (first .fill-half .ensures) (second .fill-half2 .ensures)
+    row-filled (at .left) (at .right) (at .ram .now) (at .r) (at .row .now) _ _ (start .pre .1 .1)
+    (first .fill-half .ensures)
+    (second .fill-half2 .ensures)
 
 pub fill-row-spec : {M : Type 1} → statement M
 fill-row-spec =

@@ -1,5 +1,5 @@
 -- `frame::lines_from` meets its contract: two pages as one number, shifted.
-use Prim.Native.Nat.{ℕ, _+_, _*_, _/_, _%_}
+use Prim.Native.Nat.{ℕ, _+_, _/_, _%_}
 use native.Mathlib.Omega.{arith}
 use mathlib.Core.Path.{sym}
 use Rattle.sed1520.specs.Memory.{ramIndex}

@@ -2,6 +2,7 @@
 use native.Mathlib.Omega.{arith}
 use mathlib.Core.Path.{refl, _∙_}
 use mathlib.Core.List.{[], _∷_}
+use Rattle.frame.specs.Frame.{segments}
 use Rattle.repaint.specs.Repaint.{bytesOf, pageRecords, writes}
 use Rattle.repaint.proofs.Bytes.{holds-first, holds-more, writes-size}
 use Rattle.repaint.proofs.Small.{page-small}
@@ -10,16 +11,27 @@ use Rattle.repaint.proofs.chip_records.put_page.Statement.{statement}
 use Rattle.repaint.proofs.chip_records.put_page.Tie as tie
 
 add-put-record : tie.Need-add-put-record
-add-put-record c = omega (arith, c .before .first .ensures, c .hidden-page .ensures, page-small (c .before .before .before .before .args .chip) (c .before .before .before .before .args .row) (c .before .before .before .before .pre .1 .0))
+add-put-record c =
+    let start = c .before .before .before .before in
+    let page = page-small (start .args .chip) (start .args .row) (start .pre .1 .0) in
+    omega (arith, c .before .first .ensures, c .hidden-page .ensures, page)
 
 returns : tie.Need-returns
 unfolding bytesOf pageRecords
 returns c =
-    let at = c .before .before .before .before .before .before .before .before .before .before .before .before .before .before .before .before .before .before .args in
-    let page = holds-first (_ ∷ []) (at .output .now) refl (c .before .before .before .before .before .before .before .before .before .before .before .before .put-record .ensures) in
-    let column = holds-more page (_ ∷ []) refl (c .before .before .before .before .before .before .put-record2 .ensures) in
-    let all = holds-more column (writes (at .chip) (at .which) (at .picture .now) (at .row) 0 61) (writes-size (at .chip) (at .which) (at .picture .now) (at .row) 61) (c .before .before .put-writes .ensures) in
-    all .bytes ∙ rw (c .before .before .before .before .before .before .before .before .before .before .before .before .before .before .before .first .ensures, c .before .before .before .before .before .before .before .before .before .before .before .before .before .before .hidden-page .ensures, c .before .before .before .before .before .before .before .before .before .first2 .ensures, c .before .before .before .before .before .before .before .before .lowest-column .ensures)
+    let bytes = c .before .before in
+    let column = bytes .before .before .before .before in
+    let page = column .before .before .before .before .before .before in
+    let lowest = column .before .before in
+    let hidden = page .before .before in
+    let at = hidden .before .before .before .before .args in
+    let all = writes (at .chip) (at .which) (at .picture .now) (at .row) 0 segments in
+    let size = writes-size (at .chip) (at .which) (at .picture .now) (at .row) segments in
+    let one = holds-first (_ ∷ []) (at .output .now) refl (page .put-record .ensures) in
+    let two = holds-more one (_ ∷ []) refl (column .put-record2 .ensures) in
+    let three = holds-more two all size (bytes .put-writes .ensures) in
+    three .bytes
+    ∙ rw (hidden .before .first .ensures, hidden .hidden-page .ensures, lowest .before .first2 .ensures, lowest .lowest-column .ensures)
 
 pub put-page-spec : {M : Type 1} → statement M
 put-page-spec =

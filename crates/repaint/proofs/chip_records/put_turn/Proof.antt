@@ -10,7 +10,10 @@ add-put-record : tie.Need-add-put-record
 add-put-record c = omega (arith, c .before .first .ensures, c .turned-line .ensures, line-small (c .before .before .before .args .chip))
 
 returns : tie.Need-returns
-returns c = c .before .before .put-record .ensures ∙ rw (c .before .before .before .before .before .first .ensures, c .before .before .before .before .turned-line .ensures)
+returns c =
+    let put = c .before .before in
+    let line = put .before .before in
+    put .put-record .ensures ∙ rw (line .before .first .ensures, line .turned-line .ensures)
 
 pub put-turn-spec : {M : Type 1} → statement M
 put-turn-spec =

@@ -4,6 +4,7 @@ use native.Mathlib.Omega.{arith}
 use mathlib.Core.Path.{_≡_, refl}
 use lib.ListN.{length, length-take, length-drop}
 use borrow.Author.Needs.{needs}
+use Rattle.frame.specs.Frame.{segments}
 use Rattle.repaint.specs.Repaint.{writes}
 use Rattle.repaint.proofs.Bytes.{Holds, holds-none, holds-write}
 use Rattle.repaint.proofs.Small.{segment-small}
@@ -11,10 +12,11 @@ use Rattle.repaint.proofs.chip_records.put_writes.Statement.{statement}
 use Rattle.repaint.proofs.chip_records.put_writes.Tie as tie
 
 abbrev Inv-loop : tie.InvT-loop
-Inv-loop chip which picture row output₀ j₀ output j = Holds (writes chip which picture row 0 j) (4 * j) output₀ output × ((j ≤ 61) × (length output ≡ length output₀))
+Inv-loop chip which picture row output₀ j₀ output j =
+    Holds (writes chip which picture row 0 j) (4 * j) output₀ output × ((j ≤ segments) × (length output ≡ length output₀))
 
 abbrev μ-loop : tie.MeasureT-loop
-μ-loop chip which picture row output₀ j₀ output j = 61 - j
+μ-loop chip which picture row output₀ j₀ output j = segments - j
 
 loop-holds : tie.Need-loop-holds Inv-loop μ-loop
 unfolding writes
@@ -30,16 +32,25 @@ put-record-requires c κs = simp (length-take, length-drop) (omega arith)
 
 loop-again : tie.Need-loop-again Inv-loop μ-loop
 loop-again c =
-    let at = c .before .before .before .before .before .before .before .loop in
-    let start = c .before .before .before .before .before .before .before .before .before .before in
-    (holds-write (start .args .chip) (start .args .which) (start .args .picture .now) (start .args .row) (at .j) (start .args .output .now) (at .output) (at .inv .0) (c .before .before .before .before .before .segment-of .result) (c .before .before .before .before .picture-byte .result) _ (c .before .before .before .before .before .segment-of .ensures) (c .before .before .before .before .picture-byte .ensures) (c .before .before .put-record .ensures), (omega arith, search needs))
+    let put = c .before .before in
+    let byte = put .before .before in
+    let segment = byte .before in
+    let loop = segment .before .before in
+    let start = loop .before .before .before in
+    let at = start .args in (
+      holds-write (at .chip) (at .which) (at .picture .now) (at .row) (loop .loop .j) (loop .loop .inv .0)
+          (segment .segment-of .ensures)
+          (byte .picture-byte .ensures)
+          (put .put-record .ensures),
+      (omega arith, search needs),
+    )
 
 same-length : tie.Need-same-length Inv-loop μ-loop
 same-length c = c .before .loop .inv .1 .1
 
 returns : tie.Need-returns Inv-loop μ-loop
 returns c =
-    let e : c .before .loop .j ≡ 61 = omega arith in
+    let e : c .before .loop .j ≡ segments = omega arith in
     rw e at (c .before .loop .inv .0 .bytes)
 
 pub put-writes-spec : {M : Type 1} → statement M
