@@ -1,0 +1,185 @@
+#!/bin/sh
+# Runs ./replay and ./show in a copy of the project, with what is built in it: status, words, and that they run what the sources say now.
+# Usage: wrappers.sh, from any folder. rt is the real one where nothing else is said; each call of it is noted.
+set -u
+project=$(readlink -f "$(dirname "$0")/../..")
+work=$(mktemp -d) || exit 1
+trap 'rm -rf "$work"' EXIT
+mkdir "$work/a copy" "$work/bin" "$work/folder"
+(cd "$project" && cp -Rp crates crates.txt tools host target replay show examples "$work/a copy") || exit 1
+cd "$work/a copy" || exit 1
+unset MAKEFLAGS MAKEOVERRIDES
+calls=$work/calls archive=target/staticlib/libpedralume.a real_rt=$(command -v rt)
+export calls real_rt
+PATH=$work/bin:$PATH
+checks=0 failed=0
+
+check() { # LABEL COMMAND...: the command must succeed
+    label=$1
+    shift
+    checks=$((checks + 1))
+    "$@" || { failed=$((failed + 1)); echo "wrappers: FAILED: $label"; }
+}
+same() { [ "$1" = "$2" ]; }
+run() { # COMMAND...: leaves $status, $work/out and $work/err
+    : >"$calls"
+    "$@" >"$work/out" 2>"$work/err"
+    status=$?
+}
+ended() { # LABEL STATUS WORDS: how what was run ended, and the last line that it said
+    check "$1: status $status" same "$status" "$2"
+    check "$1: says '$(tail -n 1 "$work/err")'" same "$(tail -n 1 "$work/err")" "$3"
+}
+printed() { check "$1: prints something else" cmp -s "$work/out" "$2"; } # LABEL FILE
+called() { check "$1: calls rt with '$(cat "$calls")'" same "$(cat "$calls")" "$2"; } # LABEL CALLS
+rt_is() { # COMMANDS: what rt does, after it has noted the call
+    printf '#!/bin/sh\necho "$*" >>"$calls"\n%s\n' "$1" >"$work/bin/rt"
+    chmod +x "$work/bin/rt"
+}
+# shellcheck disable=SC2016
+real='exec "$real_rt" "$@"'
+rt_is "$real"
+cp target/bin/replay "$work/program"
+cp "$archive" "$work/archive"
+touch target/bin/replay "$archive"
+host/build/show examples/name.trace >"$work/shown" || exit 1
+
+# ---- replay: good uses ----
+
+replayed() { ended "$1" 0 ""; printed "$1" crates/replay/stdout; called "$1" "check replay"; } # LABEL
+run ./replay examples/listing.trace; replayed "a file"
+run ./replay <examples/listing.trace; replayed "standard input"
+ln -s "$PWD/replay" "$work/folder/replay"
+cp examples/listing.trace "$work/folder/t"
+run sh -c 'cd ../folder && ./replay t'; replayed "a link, from another folder"
+for option in --help -h; do
+    run ./replay $option; ended "$option" 0 ""; called "$option" ""
+    check "$option: usage" same "$(head -n 1 "$work/out")" "Usage: replay [FILE]"
+done
+
+# ---- replay: wrong uses ----
+
+wrong() { # LABEL WORDS ARGUMENTS...
+    use=$1 words=$2
+    shift 2
+    run ./replay "$@"; ended "$use" 2 "replay: $words"; printed "$use" /dev/null; called "$use" ""
+}
+wrong "two files" 'more than one file: "b"; see replay --help' examples/listing.trace b
+for option in -x --foo - --; do wrong "$option" "unknown option \"$option\"; see replay --help" $option; done
+wrong "missing file" "nowhere: no such file" nowhere
+wrong "empty name" ": no such file" ""
+wrong "a directory" "examples: is a directory" examples
+wrong "standard input a directory" "standard input: is a directory" <examples
+: >"$work/secret"; chmod 000 "$work/secret"
+[ -r "$work/secret" ] || wrong "a file that cannot be read" "$work/secret: cannot be read" "$work/secret"
+
+# ---- replay: refused traces, the answers before printed ----
+
+refused() { # WORDS, with the trace on standard input
+    cat >"$work/t"
+    "$work/program" <"$work/t" >"$work/listed"
+    run ./replay "$work/t"; ended "$1" 1 "replay: refused with number $1"; printed "$1" "$work/listed"
+}
+begun() { cat examples/listing.trace; printf "$1"; cat examples/listing.trace; } # RECORD: nine good records before it and after it
+begun '\012\000\000\000' | refused "4 at record 9: spare line bits or the fourth byte not 0"
+begun '\002\002\000\000' | refused "5 at record 9: a chip over 1"
+begun '\006\000\000\000' | refused "6 at record 9: RD and WR equal"
+begun '\002\000\200\000' | refused "7 at record 9: a byte that is no command"
+begun '\002\000\340\000' | refused "8 at record 11: a column set while read-modify-write is on"
+begun '\002' | refused "3: a length that is no multiple of 4 (whole records: 18)"
+status_reads() { awk 'BEGIN { for (i = 0; i < 16385; i++) printf "abcb" }' | tr abc '\004\000\140' | head -c "$1"; } # BYTES
+status_reads 65537 | refused "1: a trace over 65,536 bytes"
+status_reads 65536 >"$work/t"
+"$work/program" <"$work/t" >"$work/listed"
+run ./replay "$work/t"; ended "the longest trace" 0 ""; printed "the longest trace" "$work/listed"
+
+# ---- replay: no whole end line ----
+
+./replay examples/listing.trace >&- 2>"$work/err"
+status=$?; ended "closed output" 1 "replay: standard output cannot be written"
+./replay examples/listing.trace >/dev/full 2>"$work/err"
+status=$?; ended "a full disk" 1 "replay: standard output cannot be written"
+{ sleep 0.3; ./replay "$work/t" 2>"$work/err"; echo $? >"$work/status"; } | true
+status=$(cat "$work/status"); ended "a closed pipe" 1 "replay: standard output cannot be written"
+run ./replay <&-; ended "closed input" 1 "replay: no whole end line: the trace could not be read"; printed "closed input" /dev/null
+for text in '' 'end 0 9 2 1' '0 0 00\nend 0 9 2\n' '0 0 00\n'; do
+    printf '#!/bin/sh\nprintf "%s"\n' "$text" >target/bin/replay
+    run ./replay examples/listing.trace; ended "a program that prints '$text'" 1 "replay: no whole end line: the trace could not be read"
+done
+cp "$work/program" target/bin/replay
+
+# ---- replay: what is run is built from the sources as they are ----
+
+cp -p crates/replay/src/main.rt "$work/main.rt"
+cp -p target/stamp/replay "$work/stamp"
+echo "no Rattle" >>crates/replay/src/main.rt
+run ./replay examples/listing.trace; ended "a broken source" 1 "replay: the program cannot be built"; printed "a broken source" /dev/null
+cp -p "$work/main.rt" crates/replay/src/main.rt
+cp -p "$work/stamp" target/stamp/replay
+run ./replay examples/listing.trace; replayed "the source as it was"
+rm target/bin/replay
+rt_is "[ ! -e target/stamp/replay ] && cp ../program target/bin/replay"
+run ./replay examples/listing.trace; ended "nothing built" 0 "replay: proving and building, up to a minute"; printed "nothing built" crates/replay/stdout
+cp -p "$work/stamp" target/stamp/replay
+rt_is "$real"
+
+# ---- show: as it is, and built anew where a source is newer ----
+
+shown() { printed "$1" "$work/shown"; called "$1" "$2"; ended "$1" 0 "${2:+show: proving and building, up to two minutes}"; } # LABEL CALLS
+run ./show examples/name.trace; shown "show" ""
+ln -s "$PWD/show" "$work/folder/show"
+cp examples/name.trace "$work/folder/n"
+run sh -c 'cd ../folder && ./show n'; shown "show, a link from another folder" ""
+run ./show; ended "show with no file" 2 'show: no file for "TRACE"; see show --help'
+./show examples/name.trace >&- 2>"$work/err"
+status=$?; ended "show, closed output" 1 "standard output: cannot be written: Bad file descriptor"
+
+rt_is "touch $archive"
+for source in crates.txt crates/frame/src/lib.rt crates/sed1520/specs/Chip.antt; do
+    touch "$source"
+    run ./show examples/name.trace; shown "show, newer $source" "staticlib pedralume"
+    run ./show examples/name.trace; shown "show after that" ""
+done
+rt_is "touch $archive; sleep 0.1; touch crates/frame/src/lib.rt; sleep 0.1; touch $archive"
+touch crates.txt
+run ./show examples/name.trace; shown "show, a source changed meanwhile" "staticlib pedralume"
+run ./show examples/name.trace; shown "show after it" "staticlib pedralume"
+rt_is "$real"
+echo "no Rattle" >>crates/pedralume/src/lib.rt
+run ./show examples/name.trace; ended "show, a broken source" 1 "show: the viewer cannot be built"; printed "show, a broken source" /dev/null
+
+# ---- two at once with nothing built: one builds, the other waits ----
+
+both() { # LABEL COMMAND...: runs it twice at once
+    use=$1
+    shift
+    : >"$calls"
+    ("$@" >"$work/out2" 2>"$work/err2"; echo $? >"$work/status2") &
+    "$@" >"$work/out" 2>"$work/err"
+    status=$?
+    wait
+    check "$use: status $status and $(cat "$work/status2")" same "$status $(cat "$work/status2")" "0 0"
+    check "$use: print not the same" cmp -s "$work/out" "$work/out2"
+}
+two_shows() { # LABEL
+    rm -rf host/build "$archive"
+    rt_is "head -c 1000 ../archive >$archive; sleep 0.5; cp ../archive $archive"
+    both "$1" ./show examples/name.trace; printed "$1" "$work/shown"; called "$1" "staticlib pedralume"
+}
+two_replays() { # LABEL
+    rm target/bin/replay
+    rt_is "[ -e target/bin/replay ] || { head -c 1000 ../program >target/bin/replay; sleep 0.5; cp ../program target/bin/replay; chmod +x target/bin/replay; }"
+    both "$1" ./replay examples/listing.trace; printed "$1" crates/replay/stdout
+}
+two_shows "two shows"
+two_replays "two replays"
+mkdir "$work/tools"
+for folder in $(echo "$PATH" | tr : ' '); do ln -s "$folder"/* "$work/tools" 2>/dev/null; done
+rm "$work/tools/flock"
+PATH=$work/bin:$work/tools
+two_shows "two shows without flock"
+two_replays "two replays without flock"
+check "without flock: the lock stays" [ ! -e target/building ]
+
+echo "wrappers: $checks checks, $failed failed"
+[ "$failed" -eq 0 ]
