@@ -103,11 +103,12 @@
  *   - for the left chip, then the right one, for each of its hidden pages, the lower one first (it
  *     takes picture row r = 0): set page, set column (0, or 19 with reverse ADC), 61 data writes;
  *   - left start line, then right start line, each turned from 0 to 16 or from 16 to 0.
- * Sent in order with nobody else on the bus, each is accepted and leaves both chips ready. Up to and
- * with record 252 the panel keeps what it showed; after 253 the left half is the picture's and the
- * right half as before; after 254 all is the picture's, with rows 16 to 31 dark. A repaint may be
- * given up after any record: a new one, called with the chips as they are then and sent whole, ends
- * at its own picture. Given up just after 253, the panel stays half new until then.
+ * Sent in order with nobody else on the bus, each is accepted and leaves both chips ready. After each
+ * of the first 252 records the panel shows what it showed before; after the 253rd the left half is the
+ * picture's and the right half as before; after the 254th all is the picture's, with rows 16 to 31
+ * dark. A repaint may be given up after any record: a new one, called with the chips as they are then
+ * and sent whole, ends at its own picture. Given up just after the 253rd, the panel stays half new
+ * until then.
  *
  *
  * WHAT EACH CALL GIVES BACK: number + 256 * place + 2^24 * compared + 2^40 * differing

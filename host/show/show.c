@@ -39,9 +39,9 @@ static const char usage[] =
     "  --pbm FILE         also write the panel to FILE, a binary PBM (P4) of 122 by 32, 1 = lit\n"
     "  --help             print this\n"
     "\n"
-    "Up to and with record 252 of a repaint the panel keeps what it showed; after 253 the left\n"
-    "half is new, after 254 both are. It takes a repaint with both displays on, static drive off,\n"
-    "duty 1/16, start line 0 or 16 and read-modify-write off.\n"
+    "After each of the first 252 records of a repaint the panel shows what it showed before; after\n"
+    "the 253rd the left half is new, after the 254th both are. It takes a repaint with both displays\n"
+    "on, static drive off, duty 1/16, start line 0 or 16 and read-modify-write off.\n"
     "\n"
     "Status: 0 shown, 1 a file, the trace or the repaint is at fault, 2 the arguments are.\n";
 

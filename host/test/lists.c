@@ -81,7 +81,7 @@ static bool same_half(const uint8_t *a, const uint8_t *b, unsigned chip)
     return true;
 }
 
-/* The left half turns with cycle 253, the right one with 254. */
+/* The left half turns with the 253rd record, the right one with the 254th. */
 static void check_panel(const struct panel *p, const uint8_t *before, const uint8_t *wanted)
 {
     uint8_t now[FRAME];
