@@ -17,8 +17,8 @@ sets-append (x ∷ xs) ys l i =
     let e : suc i + length xs ≡ i + suc (length xs) = omega arith in
     sets-append xs ys (set l i x) (suc i) ∙ rw e
 
-pub put-more : (l m n : List ℕ) (at mid end : ℕ) (xs ys : List ℕ) → Put l m at mid xs → Put m n mid end ys → Put l n at end (xs ++ ys)
-put-more l m n at mid end xs ys p q =
+pub put-more : {l m n : List ℕ} {at mid end : ℕ} {xs ys : List ℕ} → Put l m at mid xs → Put m n mid end ys → Put l n at end (xs ++ ys)
+put-more {l} {m} {n} {at} {mid} {end} {xs} {ys} p q =
     record {
       text = q .text ∙ rw (p .text, p .next-place) (sym (sets-append xs ys l at));
       next-place = omega (arith, p .next-place, q .next-place, length-append xs ys);
@@ -49,15 +49,15 @@ unfolding decimal
 more-digits zero n h l = absurd (omega arith)
 more-digits (suc most) n h l = let e : suc most - 1 ≡ most = omega arith in rw (le-ltb n 10 l, e)
 
-pub put-none : (l : List ℕ) (at n most : ℕ) → most ≡ 0 → Put l l at at (decimal most n)
-put-none l at n most e = rw (e, no-digits n) (record { text = refl; next-place = omega arith })
+pub put-none : {l : List ℕ} {at : ℕ} (n most : ℕ) → most ≡ 0 → Put l l at at (decimal most n)
+put-none n most e = rw (e, no-digits n) (record { text = refl; next-place = omega arith })
 
-pub put-single : (l : List ℕ) (at n most : ℕ) → 0 < most → n < 10 → Put l (set l at (48 + n)) at (at + 1) (decimal most n)
-put-single l at n most h d = rw (one-digit most n h d) (put-one l at (48 + n))
+pub put-single : {l : List ℕ} {at : ℕ} (n most : ℕ) → 0 < most → n < 10 → Put l (set l at (48 + n)) at (at + 1) (decimal most n)
+put-single {l} {at} n most h d = rw (one-digit most n h d) (put-one l at (48 + n))
 
-pub put-last : (l m : List ℕ) (at mid n most : ℕ) → 0 < most → 10 ≤ n → Put l m at mid (decimal (most - 1) (n / 10)) → Put l (set m mid (48 + n % 10)) at (mid + 1) (decimal most n)
-put-last l m at mid n most h d p =
-    rw (more-digits most n h d) (put-more l m (set m mid (48 + n % 10)) at mid (mid + 1) (decimal (most - 1) (n / 10)) ((48 + n % 10) ∷ []) p (put-one m mid (48 + n % 10)))
+pub put-last : {l m : List ℕ} {at mid : ℕ} (n most : ℕ) → 0 < most → 10 ≤ n → Put l m at mid (decimal (most - 1) (n / 10))
+    → Put l (set m mid (48 + n % 10)) at (mid + 1) (decimal most n)
+put-last {l} {m} {at} {mid} n most h d p = rw (more-digits most n h d) (put-more p (put-one m mid (48 + n % 10)))
 
 -- four bytes put one after the other
 pub put-four : (l : List ℕ) (at a b c d : ℕ) → Put l (set (set (set (set l at a) (at + 1) b) (at + 2) c) (at + 3) d) at (at + 4) (a ∷ b ∷ c ∷ d ∷ [])
@@ -75,8 +75,8 @@ put-three l at a b c =
     record { text = rw (e1, e2); next-place = omega arith }
 
 -- one byte and then some
-pub put-after : (l m : List ℕ) (at next b : ℕ) (bytes : List ℕ) → Put (set l at b) m (at + 1) next bytes → Put l m at next (b ∷ bytes)
-put-after l m at next b bytes p = put-more l (set l at b) m at (at + 1) next (b ∷ []) bytes (put-one l at b) p
+pub put-after : {l m : List ℕ} {at next b : ℕ} {bytes : List ℕ} → Put (set l at b) m (at + 1) next bytes → Put l m at next (b ∷ bytes)
+put-after {l} {m} {at} {next} {b} p = put-more (put-one l at b) p
 
 pub three-length : (l : List ℕ) (at : ℕ) → length (set (set (set l at 101) (at + 1) 110) (at + 2) 100) ≡ length l
 three-length l at = simp length-set

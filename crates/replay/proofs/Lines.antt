@@ -8,7 +8,8 @@ use lib.ListN.{length, getD}
 use Rattle.replay.specs.Text.{lineOf, linesOf, Put}
 use Rattle.replay.proofs.Digits.{put-more}
 
-lines-more : (answers : List ℕ) (at n : ℕ) → linesOf answers at (suc n) ≡ linesOf answers at n ++ lineOf (at + n) (getD answers (2 * (at + n)) 0) (getD answers (2 * (at + n) + 1) 0)
+lines-more : (answers : List ℕ) (at n : ℕ)
+    → linesOf answers at (suc n) ≡ linesOf answers at n ++ lineOf (at + n) (getD answers (2 * (at + n)) 0) (getD answers (2 * (at + n) + 1) 0)
 unfolding linesOf
 lines-more answers at zero = let e : at + 0 ≡ at = omega arith in rw (e, append-nil)
 lines-more answers at (suc n) =
@@ -24,11 +25,14 @@ pub record Lines (before now answers : List ℕ) (count at index : ℕ) : Type 0
   pub enough : 45 * count ≤ length before
   pub given : 2 * count ≤ length answers
 
-pub one-more : (before now after answers : List ℕ) (count at next index : ℕ) → Lines before now answers count at index → index + 1 ≤ count → length after ≡ length now → next ≤ at + 45
-    → Put now after at next (lineOf index (getD answers (2 * index) 0) (getD answers (2 * index + 1) 0)) → Lines before after answers count next (index + 1)
-one-more before now after answers count at next index l h same short p =
+pub one-more : {before now after answers : List ℕ} {count at next index : ℕ} → Lines before now answers count at index
+    → index + 1 ≤ count → length after ≡ length now → next ≤ at + 45
+    → Put now after at next (lineOf index (getD answers (2 * index) 0) (getD answers (2 * index + 1) 0))
+    → Lines before after answers count next (index + 1)
+one-more {before} {now} {after} {answers} {count} {at} {next} {index} l h same short p =
+    let e : 0 + index ≡ index = omega arith in
     record {
-      so-far = rw (add-one index, lines-more answers 0 index) (let e : 0 + index ≡ index = omega arith in rw e (put-more before now after 0 at next (linesOf answers 0 index) _ (l .so-far) p));
+      so-far = rw (add-one index, lines-more answers 0 index) (rw e (put-more (l .so-far) p));
       within = h;
       short = omega arith;
       size = same ∙ l .size;
@@ -38,4 +42,12 @@ one-more before now after answers count at next index l h same short p =
 
 pub no-lines : (l answers : List ℕ) (count : ℕ) → 45 * count ≤ length l → 2 * count ≤ length answers → Lines l l answers count 0 0
 unfolding linesOf
-no-lines l answers count e g = record { so-far = record { text = refl; next-place = refl }; within = omega arith; short = omega arith; size = refl; enough = e; given = g }
+no-lines l answers count e g =
+    record {
+      so-far = record { text = refl; next-place = refl };
+      within = omega arith;
+      short = omega arith;
+      size = refl;
+      enough = e;
+      given = g;
+    }

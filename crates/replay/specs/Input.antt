@@ -1,4 +1,5 @@
--- What reading standard input came to. That the count lies within the buffer is all that is proved: the kit's contract of read says nothing of the bytes.
+-- What reading standard input came to. That the count lies within the buffer is all that is proved: the kit's contract of read says nothing of the
+-- bytes.
 use Prim.Native.Nat.{ℕ}
 use Rattle.replay.specs.declared.Input.{Input}
 use Rattle.replay.specs.declared.Input.the-variants.{Read, Failed}

@@ -1,5 +1,5 @@
--- The text that the program prints: a line for each answer, record, kind and byte; then the end line, number, place, compared and differing. All are decimal
--- but the byte, which is two upper-case hexadecimal digits.
+-- The text that the program prints: a line for each answer, record, kind and byte; then the end line, number, place, compared and differing. All are
+-- decimal but the byte, which is two upper-case hexadecimal digits.
 use Prim.Native.Nat.{ℕ, zero, suc, _+_, _*_, _/_, _%_}
 use mathlib.Core.Path.{_≡_}
 use mathlib.Core.Bool.{_&&_}

@@ -8,10 +8,14 @@ returns : tie.Need-returns
 returns c = given-all (c .before .args .number) (c .before .args .place) (omega arith)
 
 returns-2 : tie.Need-returns-2
-returns-2 c = given-none (c .before .before .args .number) (c .before .before .args .place) (omega arith) (omega arith)
+returns-2 c =
+    let at = c .before .before .args in
+    given-none (at .number) (at .place) (omega arith) (omega arith)
 
 returns-3 : tie.Need-returns-3
-returns-3 c = given-records (c .before .before .args .number) (c .before .before .args .place) (omega arith) (omega arith)
+returns-3 c =
+    let at = c .before .before .args in
+    given-records (at .number) (at .place) (omega arith) (omega arith)
 
 pub given-in-spec : {M : Type 1} → statement M
 given-in-spec = tie.close (tie.spec returns returns-2 returns-3)

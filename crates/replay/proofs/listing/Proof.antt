@@ -1,45 +1,76 @@
 -- `replay::listing` meets its contract: the lines of the answers given, then the end line.
+use Prim.Native.Nat.{ℕ}
 use native.Mathlib.Omega.{arith}
-use Rattle.replay.proofs.Listed.{given-fits, listed}
+use mathlib.Core.List.{List}
 use borrow.Author.Needs.{needs}
+use Rattle.replay.proofs.Listed.{FromFresh, from-fresh, given-fits, listed}
 use Rattle.replay.proofs.listing.Statement.{statement}
 use Rattle.replay.proofs.listing.Tie as tie
 
+-- the places before the replay: each chip, the answer buffer, the RAM image, the start
+abbrev right-chip : tie.After-replay → tie.After-fresh2
+right-chip c = c .before .before .before
+
+abbrev left-chip : tie.After-replay → tie.After-fresh
+left-chip c = right-chip c .before
+
+abbrev cleared : tie.After-replay → tie.After-answer-buffer
+cleared c = left-chip c .before
+
+abbrev blank : tie.After-replay → tie.After-blank-image
+blank c = cleared c .before
+
+abbrev start : tie.After-replay → tie.Start
+start c = blank c .before .before .before
+
+-- the places after it: the replay itself from the count of the answers, and that count from the lines
+abbrev replayed : tie.After-given-in → tie.After-replay
+replayed c = c .before .before .before .before .before
+
+abbrev given : tie.After-put-lines → tie.After-given-in
+given c = c .before
+
+-- the image and the answers as the replay leaves them
+abbrev image-after : tie.After-replay → List ℕ
+image-after c = c .replay .last .1 .1 .0
+
+abbrev answers-after : tie.After-replay → List ℕ
+answers-after c = c .replay .last .1 .1 .1 .1 .0
+
+-- it ran as Listed has it
+ran : (c : tie.After-replay)
+    → FromFresh (start c .args .trace .now) (cleared c .answer-buffer .result) (image-after c) (answers-after c) (c .replay .result)
+ran c =
+    from-fresh
+    (left-chip c .fresh .ensures)
+    (right-chip c .fresh2 .ensures)
+    (blank c .blank-image .ensures)
+    (cleared c .answer-buffer .ensures)
+    (c .replay .ensures)
+
 put-lines-requires : tie.Need-put-lines-requires
 put-lines-requires c κs =
-    let at-replay = c .before .before .before .before .before in
-    let second = at-replay .before .before .before in
-    let first = second .before in
-    let cleared = first .before in
-    let blank = cleared .before in
-    let at = blank .before .before .before .args in
-    let fits = given-fits (at .trace .now) (cleared .answer-buffer .result) (blank .blank-image .result) _ _ (first .fresh .result) (second .fresh2 .result) (at-replay .replay .result) (first .fresh .ensures) (second .fresh2 .ensures) (blank .blank-image .ensures) (cleared .answer-buffer .ensures) (at-replay .replay .ensures) in
-    (omega (arith, fits .0, c .given-in .ensures, blank .before .before .before .pre), omega (arith, fits .1, c .given-in .ensures, at-replay .replay .kept .1 .1 .1 .1 .0))
+    let count = c .given-in .ensures in
+    let at-replay = replayed c in
+    let fits = given-fits (ran at-replay) in
+    (omega (arith, fits .0, count, start at-replay .pre), omega (arith, fits .1, count, at-replay .replay .kept .1 .1 .1 .1 .0))
 
 put-end-requires : tie.Need-put-end-requires
 put-end-requires c κs =
-    let at-replay = c .before .before .before .before .before .before .before .before .before in
-    let second = at-replay .before .before .before in
-    let first = second .before in
-    let cleared = first .before in
-    let blank = cleared .before in
-    let at = blank .before .before .before .args in
-    let fits = given-fits (at .trace .now) (cleared .answer-buffer .result) (blank .blank-image .result) _ _ (first .fresh .result) (second .fresh2 .result) (at-replay .replay .result) (first .fresh .ensures) (second .fresh2 .ensures) (blank .blank-image .ensures) (cleared .answer-buffer .ensures) (at-replay .replay .ensures) in
-    omega (arith, fits .0, c .before .before .before .before .given-in .ensures, c .before .before .before .put-lines .ensures .1, c .before .before .before .put-lines .kept .0, blank .before .before .before .pre)
+    let lines = c .before .before .before in
+    let count = given lines .given-in .ensures in
+    let at-replay = replayed (given lines) in
+    let fits = given-fits (ran at-replay) in
+    omega (arith, fits .0, count, lines .put-lines .ensures .1, lines .put-lines .kept .0, start at-replay .pre)
 
 returns : tie.Need-returns
 returns c =
-    let at-replay = c .before .before .before .before .before .before .before .before .before .before .before .before in
-    let second = at-replay .before .before .before in
-    let first = second .before in
-    let cleared = first .before in
-    let blank = cleared .before in
-    let at = blank .before .before .before .args in
-    let fits = given-fits (at .trace .now) (cleared .answer-buffer .result) (blank .blank-image .result) _ _ (first .fresh .result) (second .fresh2 .result) (at-replay .replay .result) (first .fresh .ensures) (second .fresh2 .ensures) (blank .blank-image .ensures) (cleared .answer-buffer .ensures) (at-replay .replay .ensures) in
-    let given = c .before .before .before .before .before .before .before .given-in in
-    let lines = c .before .before .before .before .before .before .put-lines in
-    let end = c .before .before .put-end in
-    (listed (at .trace .now) (cleared .answer-buffer .result) (blank .blank-image .result) _ _ (first .fresh .result) (second .fresh2 .result) (at-replay .replay .result) (first .fresh .ensures) (second .fresh2 .ensures) (blank .blank-image .ensures) (cleared .answer-buffer .ensures) (at-replay .replay .ensures) (at .out .now) _ _ (lines .result) (end .result) (given .result) (given .ensures) (lines .ensures .0) (end .ensures .0), omega (arith, fits .0, given .ensures, lines .ensures .1, end .ensures .1))
+    let end = c .before .before .put-end .ensures in
+    let at-lines = c .before .before .before .before .before .before in
+    let lines = at-lines .put-lines .ensures in
+    let count = given at-lines .given-in .ensures in
+    let replay = ran (replayed (given at-lines)) in
+    (listed replay count (lines .0) (end .0), omega (arith, given-fits replay .0, count, lines .1, end .1))
 
 pub listing-spec : {M : Type 1} → statement M
 listing-spec =

@@ -8,15 +8,20 @@ use Rattle.replay.proofs.main.Statement.{statement}
 use Rattle.replay.proofs.main.Tie as tie
 
 array-share-prefix-trace : tie.Need-array-share-prefix-trace
-array-share-prefix-trace c = rw (c .before .before .count .given .1) at (c .before .before .before .before .before .read-input .ensures)
+array-share-prefix-trace c =
+    let counted = c .before .before in
+    rw (counted .count .given .1) at (counted .before .before .before .read-input .ensures)
 
 slice-aggregate-listing : tie.Need-slice-aggregate-listing
-slice-aggregate-listing c = sym (length-take-le _ _ (rw (c .before .before .before .count .given .1) at (c .before .before .before .before .before .before .read-input .ensures)))
+slice-aggregate-listing c =
+    let counted = c .before .before .before in
+    sym (length-take-le _ _ (rw (counted .count .given .1) at (counted .before .before .before .read-input .ensures)))
 
 slice-aggregate-write-all : tie.Need-slice-aggregate-write-all
 slice-aggregate-write-all c =
-    let size = cleared-length _ 737368 (c .before .before .before .before .before .text-buffer .ensures) in
-    sym (length-take-le _ _ (omega (arith, c .before .before .listing .ensures .1, c .before .before .listing .kept .1 .0, size)))
+    let listed = c .before .before in
+    let size = cleared-length _ 737368 (listed .before .before .before .text-buffer .ensures) in
+    sym (length-take-le _ _ (omega (arith, listed .listing .ensures .1, listed .listing .kept .1 .0, size)))
 
 pub main-spec : {M : Type 1} → statement M
 main-spec =

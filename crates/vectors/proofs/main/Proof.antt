@@ -8,7 +8,8 @@ use Rattle.vectors.proofs.main.Statement.{statement}
 use Rattle.vectors.proofs.main.Tie as tie
 
 pub main-spec : {M : Type 1} → statement M
-unfolding agreesOf agreesFrom rowAgrees cycleOf stepOf actionOf commandWrite dataWrite dataRead afterRead statusOf execute decodeOf among inRange fresh
+unfolding agreesOf agreesFrom rowAgrees cycleOf stepOf actionOf commandWrite dataWrite dataRead afterRead statusOf
+    execute decodeOf among inRange fresh
 main-spec =
     tie.close
     (tie.spec

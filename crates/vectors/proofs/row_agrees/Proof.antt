@@ -7,13 +7,21 @@ use Rattle.vectors.proofs.row_agrees.Statement.{statement}
 use Rattle.vectors.proofs.row_agrees.Tie as tie
 
 returns : tie.Need-returns
-returns c = sym (wrong-number (c .before .before .before .args .row .now) (c .before .before .before .args .answer) (c .if1 .taken))
+returns c =
+    let at = c .before .before .before .args in
+    sym (wrong-number (at .row .now) (at .answer) (c .if1 .taken))
 
 returns-2 : tie.Need-returns-2
-returns-2 c = sym (wrong-kind (c .before .before .before .before .before .before .args .row .now) (c .before .before .before .before .before .before .args .answer) (omega arith) (c .if2 .taken))
+returns-2 c =
+    let second = c .before .before .before in
+    let at = second .before .before .before .args in
+    sym (wrong-kind (at .row .now) (at .answer) (omega arith) (c .if2 .taken))
 
 returns-3 : tie.Need-returns-3
-returns-3 c = sym (byte-left (c .before .before .before .before .before .before .before .before .args .row .now) (c .before .before .before .before .before .before .before .before .args .answer) (omega arith) (omega arith))
+returns-3 c =
+    let second = c .before .before .before .before .before in
+    let at = second .before .before .before .args in
+    sym (byte-left (at .row .now) (at .answer) (omega arith) (omega arith))
 
 pub row-agrees-spec : {M : Type 1} → statement M
 row-agrees-spec =

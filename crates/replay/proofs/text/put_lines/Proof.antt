@@ -13,7 +13,9 @@ abbrev μ-loop : tie.MeasureT-loop
 μ-loop out₀ answers count at₀ index₀ out at index = count - index
 
 loop-holds : tie.Need-loop-holds Inv-loop μ-loop
-loop-holds c = no-lines (c .before .before .args .out .now) (c .before .before .args .answers .now) (c .before .before .args .count) (c .before .before .pre .0) (c .before .before .pre .1)
+loop-holds c =
+    let start = c .before .before in
+    no-lines (start .args .out .now) (start .args .answers .now) (start .args .count) (start .pre .0) (start .pre .1)
 
 mul-put-line : tie.Need-mul-put-line Inv-loop μ-loop
 mul-put-line c = omega arith
@@ -41,16 +43,19 @@ loop-less c = omega arith
 
 loop-again : tie.Need-loop-again Inv-loop μ-loop
 loop-again c =
-    let at = c .before .before .before .before .before .before .before .loop in
-    one-more (c .before .before .before .before .before .before .before .before .before .before .args .out .now) (at .out) _ (c .before .before .before .before .before .before .before .before .before .before .args .answers .now) (c .before .before .before .before .before .before .before .before .before .before .args .count) (at .at) (c .before .before .put-line .result) (at .index) (at .inv) (omega arith) (c .before .before .put-line .kept .0) (c .before .before .put-line .ensures .1) (c .before .before .put-line .ensures .0)
+    let put = c .before .before in
+    let at = put .before .before .before .before .before .loop in
+    one-more (at .inv) (omega arith) (put .put-line .kept .0) (put .put-line .ensures .1) (put .put-line .ensures .0)
 
 same-length : tie.Need-same-length Inv-loop μ-loop
 same-length c = c .before .loop .inv .size
 
 returns : tie.Need-returns Inv-loop μ-loop
 returns c =
-    let done : c .before .loop .index ≡ c .before .before .before .before .args .count = omega arith in
-    (rw done at (c .before .loop .inv .so-far), omega arith)
+    let at = c .before .loop in
+    let start = c .before .before .before .before in
+    let done : at .index ≡ start .args .count = omega arith in
+    (rw done at (at .inv .so-far), omega arith)
 
 pub put-lines-spec : {M : Type 1} → statement M
 put-lines-spec =

@@ -3,7 +3,6 @@ use native.Mathlib.Omega.{arith}
 use mathlib.Core.Path.{_∙_}
 use lib.ListN.{length-set}
 use borrow.Author.Needs.{needs}
-use Rattle.replay.specs.Text.{decimalOf}
 use Rattle.replay.proofs.Digits.{put-after, digits-bound}
 use Rattle.replay.proofs.text.put_next.Statement.{statement}
 use Rattle.replay.proofs.text.put_next.Tie as tie
@@ -16,9 +15,10 @@ same-length c = c .before .before .put-digits .kept .0 ∙ simp length-set
 
 returns : tie.Need-returns
 returns c =
-    let at = c .before .before .before .before .before .args in
-    let put = c .before .before .put-digits .ensures in
-    (put-after (at .out .now) _ (at .at) (c .before .before .put-digits .result) 32 (decimalOf (at .n)) put, omega (arith, put .next-place, digits-bound 20 (at .n)))
+    let digits = c .before .before in
+    let start = digits .before .before .before in
+    let put = digits .put-digits .ensures in
+    (put-after put, omega (arith, put .next-place, digits-bound 20 (start .args .n)))
 
 pub put-next-spec : {M : Type 1} → statement M
 put-next-spec =
