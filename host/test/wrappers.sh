@@ -119,7 +119,8 @@ cp -p "$work/stamp" target/stamp/replay
 run ./replay examples/listing.trace; replayed "the source as it was"
 rm target/bin/replay
 rt_is "[ ! -e target/stamp/replay ] && cp ../program target/bin/replay"
-run ./replay examples/listing.trace; ended "nothing built" 0 "replay: proving and building, up to a minute"; printed "nothing built" crates/replay/stdout
+run ./replay examples/listing.trace; ended "nothing built" 0 "replay: proving and building, up to a minute"
+printed "nothing built" crates/replay/stdout
 cp -p "$work/stamp" target/stamp/replay
 rt_is "$real"
 
@@ -168,7 +169,8 @@ two_shows() { # LABEL
 }
 two_replays() { # LABEL
     rm target/bin/replay
-    rt_is "[ -e target/bin/replay ] || { head -c 1000 ../program >target/bin/replay; sleep 0.5; cp ../program target/bin/replay; chmod +x target/bin/replay; }"
+    rt_is "program=target/bin/replay
+        [ -e \$program ] || { head -c 1000 ../program >\$program; sleep 0.5; cp ../program \$program; chmod +x \$program; }"
     both "$1" ./replay examples/listing.trace; printed "$1" crates/replay/stdout
 }
 two_shows "two shows"
