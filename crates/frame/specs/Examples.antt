@@ -2,18 +2,13 @@
 use Prim.Native.Nat.{ℕ, _+_, _*_, _/_, _%_, _^_, _<_}
 use mathlib.Core.Path.{_≡_}
 use mathlib.Core.Bool.{true}
-use mathlib.Core.List.{List, [], _∷_}
+use mathlib.Core.List.{List}
 use lib.ListN.{getD}
 use Rattle.sed1520.specs.Memory.{ramIndex}
 use Rattle.sed1520.specs.Panel.{Panel, chipAt}
-use Rattle.sed1520.specs.Examples.{ran, command, ChipExamples}
-use Rattle.sed1520.specs.declared.registers.Chip.{Chip}
+use Rattle.sed1520.specs.Examples.{commanded, ChipExamples}
 use Rattle.frame.specs.Frame.{segments, columns, columnOf, pixel, frameOf}
 use Rattle.frame.specs.Laws.{firstColumn}
-
--- the fresh chip after two command bytes
-unfoldable pub commanded : ℕ → ℕ → Chip
-commanded first second = ran (command first ∷ command second ∷ []) .answer .chip
 
 -- every byte of a chip's half has this value
 pub record HalfAll (p : Panel) (chip value : ℕ) : Type 0 where

@@ -7,10 +7,8 @@ ghost use lib.ListN.{length};
 ghost use Rattle.frame.specs.Frame.{columns, frameBytes, columnOf, lineBit, packedPixels, frameByte, halfRow};
 ghost use Rattle.frame.specs.Frame.{frameRow, frameOf, sizesWrong, framed, given};
 ghost use Rattle.frame.specs.Shown.{Shows, BothShow};
+use sed1520::bus::IMAGE_BYTES;
 use sed1520::registers::Chip;
-
-// The RAM image of both chips.
-pub const IMAGE_BYTES: usize = 640;
 
 // A frame: 122 columns, four bytes of eight rows each.
 pub const FRAME_BYTES: usize = 488;
@@ -112,7 +110,7 @@ fn fill(left: Chip, right: Chip, ram: &[u8], frame: &mut [u8])
 }
 
 // Number 1: an image that is not 640 bytes, or a frame buffer that is not 488.
-pub fn sizes_wrong(ram: usize, frame: usize) -> bool
+fn sizes_wrong(ram: usize, frame: usize) -> bool
     ensures { λ r. ⌜ r ≡ sizesWrong ram frame ⌝ }
 {
     if ram != IMAGE_BYTES {

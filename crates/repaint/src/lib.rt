@@ -37,7 +37,7 @@ impl Repainted {
 }
 
 // Number 1: a picture that is not 244 bytes, or an output buffer under 1,016.
-pub fn sizes_wrong(picture: usize, output: usize) -> bool
+fn sizes_wrong(picture: usize, output: usize) -> bool
     ensures { λ r. ⌜ r ≡ sizesWrong picture output ⌝ }
 {
     if picture != PICTURE_BYTES {

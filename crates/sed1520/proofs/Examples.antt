@@ -3,7 +3,7 @@ use mathlib.Core.Path.{refl}
 use Rattle.sed1520.specs.Chip.{inRange, fresh}
 use Rattle.sed1520.specs.Command.{among, decodeOf}
 use Rattle.sed1520.specs.Cycle.{execute, commandWrite, dataWrite, afterRead, dataRead, statusOf, actionOf, stepOf, cycleOf}
-use Rattle.sed1520.specs.Examples.{ranFrom, ChipExamples}
+use Rattle.sed1520.specs.Examples.{ranFrom, commanded, ChipExamples, CommandedChips}
 
 pub chip-examples : ChipExamples
 unfolding ranFrom cycleOf stepOf actionOf commandWrite dataWrite dataRead afterRead statusOf execute decodeOf among inRange fresh
@@ -26,3 +26,7 @@ chip-examples =
       p11-6 = λ b. refl;
       p11-8 = λ b. refl;
     }
+
+pub commanded-chips : CommandedChips
+unfolding commanded ranFrom cycleOf stepOf actionOf commandWrite execute decodeOf among inRange fresh
+commanded-chips = record { static-off = refl; static-on = refl; line-31 = refl; forward = refl; reverse = refl }

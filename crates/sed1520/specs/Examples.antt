@@ -7,11 +7,12 @@ use mathlib.Core.List.{List, [], _∷_, _++_}
 use lib.Dec.{eqb}
 use lib.ListN.{replicate, set}
 use Rattle.sed1520.specs.Choice.{if}
-use Rattle.sed1520.specs.Chip.{fresh, withDisplay, withReverse, withColumn, withStartLine}
+use Rattle.sed1520.specs.Chip.{fresh, withDisplay, withStatic, withReverse, withColumn, withStartLine}
 use Rattle.sed1520.specs.Command.{told, notTold, decodeOf}
 use Rattle.sed1520.specs.Memory.{ramIndex}
 use Rattle.sed1520.specs.Cycle.{Outcome, outcome, refusal, answered, cycleOf}
 use Rattle.sed1520.specs.Laws.{sent}
+use Rattle.sed1520.specs.declared.registers.Chip.{Chip}
 use Rattle.sed1520.specs.declared.commands.Kind.the-variants.{StartLine}
 use Rattle.sed1520.specs.declared.bus.Record.{Record}
 
@@ -28,13 +29,17 @@ ranFrom o (r ∷ rs) = if (eqb (o .answer .number) 0) (ranFrom (cycleOf r (o .an
 abbrev pub ran : List Record → Outcome
 ran rs = ranFrom (outcome (answered 0 0 fresh) blank) rs
 
--- refused: the fresh chip and its RAM as they were
-abbrev pub refused : ℕ → Outcome
-refused n = outcome (refusal n fresh) blank
-
 -- a command write to chip 0
 abbrev pub command : ℕ → Record
 command b = sent 2 0 b
+
+-- the fresh chip after two command bytes
+unfoldable pub commanded : ℕ → ℕ → Chip
+commanded first second = ran (command first ∷ command second ∷ []) .answer .chip
+
+-- refused: the fresh chip and its RAM as they were
+abbrev pub refused : ℕ → Outcome
+refused n = outcome (refusal n fresh) blank
 
 -- a data write to chip 0
 abbrev pub write : ℕ → Record
@@ -74,3 +79,11 @@ pub record ChipExamples : Type 0 where
   pub p11-0 : (b : ℕ) → ran (sent 0 0 b ∷ []) ≡ refused 6
   pub p11-6 : (b : ℕ) → ran (sent 6 0 b ∷ []) ≡ refused 6
   pub p11-8 : (b : ℕ) → ran (sent 8 2 b ∷ []) ≡ refused 4
+
+-- the chips that the frame's examples begin at
+pub record CommandedChips : Type 0 where
+  pub static-off : commanded 0xAE 0xA5 ≡ withStatic true fresh
+  pub static-on : commanded 0xAF 0xA5 ≡ withStatic true (withDisplay true fresh)
+  pub line-31 : commanded 0xAF 0xDF ≡ withStartLine 31 (withDisplay true fresh)
+  pub forward : commanded 0xAF 0xA0 ≡ withDisplay true fresh
+  pub reverse : commanded 0xAF 0xA1 ≡ withReverse true (withDisplay true fresh)

@@ -6,6 +6,9 @@ ghost use Rattle.sed1520.specs.ChipRecord.{bit, mark, latchOf, chipBytes
 use crate::registers::Chip;
 use crate::registers::ReadLatch;
 
+// A chip record.
+pub(crate) const CHIP_BYTES: usize = 12;
+
 // The records of both chips.
 pub const CHIPS_BYTES: usize = 24;
 
@@ -120,8 +123,8 @@ pub fn chips_in(records: &[u8]) -> Chips
         };
     }
     Chips {
-        left: chip_in(&records[..12]),
-        right: chip_in(&records[12..]),
+        left: chip_in(&records[..CHIP_BYTES]),
+        right: chip_in(&records[CHIP_BYTES..]),
     }
 }
 
@@ -146,11 +149,11 @@ pub(crate) fn chip_out(chip: Chip, bytes: &mut [u8])
 }
 
 // Two chips as records, left before right.
-pub fn chips_bytes(left: Chip, right: Chip) -> [u8; 24]
+pub fn chips_bytes(left: Chip, right: Chip) -> [u8; CHIPS_BYTES]
     ensures { λ r. ⌜ r ≡ chipsBytes left right ⌝ }
 {
-    let mut records = [0u8; 24];
-    chip_out(left, &mut records[..12]);
-    chip_out(right, &mut records[12..]);
+    let mut records = [0u8; CHIPS_BYTES];
+    chip_out(left, &mut records[..CHIP_BYTES]);
+    chip_out(right, &mut records[CHIP_BYTES..]);
     records
 }

@@ -6,15 +6,14 @@ ghost use Rattle.sed1520.specs.ChipRecord.{registersIn};
 ghost use Rattle.sed1520.specs.Cycle.{commandWrite, dataWrite, dataRead};
 ghost use Rattle.sed1520.specs.RecordStep.{bare, bareRefusal, acted, readBytes, commandBytes, written, actionOn, stepRecords};
 use crate::actions::Answer;
+use crate::bus::IMAGE_BYTES;
 use crate::bus::Record;
+use crate::chip_record::CHIP_BYTES;
 use crate::chip_record::CHIPS_BYTES;
 use crate::chip_record::chip_out;
 use crate::chip_record::mark;
 use crate::chip_record::registers_in;
 use crate::registers::Chip;
-
-// The RAM image of both chips.
-pub const IMAGE_BYTES: usize = 640;
 
 // What a step gives back beside what it was lent: the number, and the answer's kind and byte.
 pub struct BareAnswer {
@@ -115,12 +114,12 @@ pub fn step_of_tested_records(bus: Record, chips: &mut [u8], ram: &mut [u8]) -> 
     if number != 0 {
         return refused(number);
     }
-    let from = 12 * (bus.chip as usize);
+    let from = CHIP_BYTES * (bus.chip as usize);
     let start = Chip::RAM_WIDTH * (bus.chip as usize);
     act(
         bus.lines,
         bus.byte,
-        &mut chips[from..from + 12],
+        &mut chips[from..from + CHIP_BYTES],
         &mut ram[start..start + Chip::RAM_WIDTH],
     )
 }

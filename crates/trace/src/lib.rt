@@ -10,11 +10,11 @@ ghost use Rattle.sed1520.specs.Panel.{panelOf};
 ghost use Rattle.sed1520.specs.Promises.{RecordsFit};
 ghost use Rattle.sed1520.specs.Records.{front, wholeRecords};
 ghost use Rattle.trace.specs.Replay.{isCompared, refusal, outcome, runOf, ended, sizesWrong, replayOf, inPlace, settled, replayInPlace};
+use sed1520::bus::IMAGE_BYTES;
 use sed1520::bus::Record;
 use sed1520::chip_record::CHIPS_BYTES;
 use sed1520::chip_record::chips_bytes;
 use sed1520::chip_record::chips_in;
-use sed1520::record_step::IMAGE_BYTES;
 use sed1520::record_step::step_of_tested_records;
 use sed1520::registers::Chip;
 
