@@ -1,6 +1,5 @@
 -- Which action a step over records takes, and what refuses it, as equations of `actionOn` and `stepRecords`.
-use Prim.Native.Nat.{ℕ, _+_, _-_, _*_}
-use native.Mathlib.Omega.{arith}
+use Prim.Native.Nat.{ℕ, _+_, _-_}
 use mathlib.Core.Path.{_≡_, sym, ap, _∙_}
 use mathlib.Core.Bool.{not, or-true}
 use mathlib.Core.List.{List, _++_}
@@ -9,10 +8,9 @@ use lib.ListN.{length, take, drop}
 use borrow.Author.Tests.{eq-eqb, ne-eqb}
 use Rattle.sed1520.specs.ChipRecord.{registersIn}
 use Rattle.sed1520.specs.Cycle.{commandWrite, dataWrite, dataRead, statusRead}
-use Rattle.sed1520.specs.RecordStep.{bare, bareRefusal, acted, readBytes, commandBytes, written, actionOn, busRefusal, partAt, putBack, stepRecords}
+use Rattle.sed1520.specs.RecordStep.{bare, bareRefusal, acted, readBytes, commandBytes, written, actionOn, busRefusal, startOf, partAt, putBack, stepRecords}
 use Rattle.sed1520.specs.declared.bus.Record.{Record}
 use Rattle.sed1520.specs.declared.record_step.BareAnswer.{BareAnswer}
-use Rattle.sed1520.proofs.StepCases.{asks}
 use Rattle.sed1520.proofs.TwoParts.{part-lent, part-back}
 
 module _ (lines byte : ℕ) (b ram : List ℕ) where
@@ -55,20 +53,15 @@ module _ (r : Record) (chips ram : List ℕ) where
     bus-right e = rw (eq-eqb (length chips) 24 records, eq-eqb (length ram) 640 image, e)
 
     -- the action on the parts that were lent, taken back
-    pub on-parts : busRefusal r ≡ 0 → (a : BareAnswer) (own part : List ℕ)
+    pub on-parts : busRefusal r ≡ 0 → (from start : ℕ) → from ≡ startOf 12 (r .chip) → start ≡ startOf 320 (r .chip)
+        → (a : BareAnswer) (own part : List ℕ)
         → acted a own part
-        ≡ actionOn (r .lines) (r .byte)
-        (take (12 * r .chip + 12 - 12 * r .chip) (drop (12 * r .chip) chips))
-        (take (320 * r .chip + 320 - 320 * r .chip) (drop (320 * r .chip) ram))
-        → acted a
-        (take (12 * r .chip) chips ++ (own ++ drop (12 * r .chip + 12 - 12 * r .chip) (drop (12 * r .chip) chips)))
-        (take (320 * r .chip) ram ++ (part ++ drop (320 * r .chip + 320 - 320 * r .chip) (drop (320 * r .chip) ram)))
+        ≡ actionOn (r .lines) (r .byte) (take (from + 12 - from) (drop from chips)) (take (start + 320 - start) (drop start ram))
+        → acted a (take from chips ++ (own ++ drop (from + 12 - from) (drop from chips))) (take start ram ++ (part ++ drop (start + 320 - start) (drop start ram)))
         ≡ stepRecords r chips ram
-    on-parts e a own part acts =
-        let asked = asks r e in
-        let first = part-lent 12 (r .chip) (12 * r .chip) chips records (λ z. omega arith) (λ h. omega arith) in
-        let second = part-lent 320 (r .chip) (320 * r .chip) ram image (λ z. omega arith) (λ h. omega arith) in
+    on-parts e from start is-from is-start a own part acts =
+        let first = part-lent 12 (r .chip) from chips records is-from in
+        let second = part-lent 320 (r .chip) start ram image is-start in
         let acts′ = rw (first, second) at acts in
-        rw (part-back 12 (r .chip) (12 * r .chip) chips records (λ z. omega arith) (λ h. omega arith) own)
-        (rw (part-back 320 (r .chip) (320 * r .chip) ram image (λ z. omega arith) (λ h. omega arith) part)
-        (ap (putBack (r .chip) chips ram) acts′ ∙ sym (bus-right e)))
+        rw (part-back 12 (r .chip) from chips records is-from own, part-back 320 (r .chip) start ram image is-start part)
+        (ap (putBack (r .chip) chips ram) acts′ ∙ sym (bus-right e))

@@ -1,5 +1,5 @@
 -- Two parts of n bytes, one after the other: a part as a slice lends it, and put back as a slice takes it back.
-use Prim.Native.Nat.{ℕ, _+_, _-_, _<_}
+use Prim.Native.Nat.{ℕ, _+_, _-_, _≤_}
 use native.Mathlib.Omega.{arith}
 use mathlib.Core.Path.{_≡_, refl, ap, _∙_}
 use mathlib.Core.Bool.{Bool, true, false}
@@ -8,9 +8,8 @@ use mathlib.Core.Logic.{⊎-elim}
 use lib.Dec.{eqb}
 use lib.ListN.{length, take, drop, length-append, length-drop, take-append-drop, drop-of-length-le}
 use lib.Seq.{take-all, take-at, drop-at, length-take-le}
-use borrow.Author.Tests.{eqb-true, eqb-false}
 use Rattle.sed1520.specs.Choice.{if}
-use Rattle.sed1520.specs.RecordStep.{partAt, partPut}
+use Rattle.sed1520.specs.RecordStep.{startOf, partAt, partPut}
 use Rattle.sed1520.proofs.Tests.{tested, when}
 
 -- nothing stands past the end of a part
@@ -24,7 +23,13 @@ both-written n l r blank first second hl hb is-l is-r =
     rw (is-l, is-r, take-at l blank n hl, drop-at l blank n hl, past n blank hb, append-nil)
 
 -- part k of two, which begins at s
-module _ (n k s : ℕ) (bytes : List ℕ) (two : length bytes ≡ n + n) (front : k ≡ 0 → s ≡ 0) (rear : (k ≡ 0 → ⊥) → s ≡ n) where
+module _ (n k s : ℕ) (bytes : List ℕ) (two : length bytes ≡ n + n) (start : s ≡ startOf n k) where
+  at-front : eqb k 0 ≡ true → s ≡ 0
+  at-front l = rw (start, l)
+
+  at-rear : eqb k 0 ≡ false → s ≡ n
+  at-rear r = rw (start, r)
+
   size : s + n - s ≡ n
   size = omega arith
 
@@ -34,16 +39,19 @@ module _ (n k s : ℕ) (bytes : List ℕ) (two : length bytes ≡ n + n) (front 
   pub part-lent : take (s + n - s) (drop s bytes) ≡ partAt n k bytes
   part-lent =
       ⊎-elim
-      (λ l. rw (size, front (eqb-true k 0 l), l))
-      (λ r. rw (size, rear (eqb-false k 0 r), r) (take-all n (drop n bytes) (omega (arith, last))))
+      (λ l. rw (size, at-front l, l))
+      (λ r. rw (size, at-rear r, r) (take-all n (drop n bytes) (omega (arith, last))))
       (tested (eqb k 0))
 
   pub part-back : (part : List ℕ) → take s bytes ++ (part ++ drop (s + n - s) (drop s bytes)) ≡ partPut n k bytes part
   part-back part =
       ⊎-elim
-      (λ l. rw (size, front (eqb-true k 0 l), l))
-      (λ r. rw (size, rear (eqb-false k 0 r), r) (ap (λ (rest : List ℕ). take n bytes ++ (part ++ rest)) (past n (drop n bytes) last) ∙ rw append-nil))
+      (λ l. rw (size, at-front l, l))
+      (λ r. rw (size, at-rear r, r) (ap (λ (rest : List ℕ). take n bytes ++ (part ++ rest)) (past n (drop n bytes) last) ∙ rw append-nil))
       (tested (eqb k 0))
+
+pub start-within : (n k s : ℕ) → s ≡ startOf n k → s ≤ n
+start-within n k s start = rw start (when (λ (m : ℕ). m ≤ n) (eqb k 0) (λ _. omega arith) (λ _. omega arith))
 
 module _ (n k : ℕ) (bytes : List ℕ) (two : length bytes ≡ n + n) where
   pub part-length : length (partAt n k bytes) ≡ n

@@ -1,5 +1,6 @@
--- A bus record given to the chip record that it names, numbers 1 and 4 to 8 refused and number 2 not tested: a step and no cycle. Each action stores only
--- the bytes of the chip record that it changes. For two records that number 2 lets pass it is the cycle of the chip that the bus record names (Promises).
+-- A bus record given to the chip record that it names, numbers 1 and 4 to 8 refused and number 2 not tested: a step and no cycle. Each action
+-- stores only the bytes of the chip record that it may change. For two records that number 2 lets pass, over the whole image, it is the cycle
+-- of the chip that the bus record names (EveryRecordStep).
 use Prim.Native.Nat.{ℕ}
 use mathlib.Core.Bool.{Bool, not, _||_}
 use mathlib.Core.List.{List, _++_}
@@ -48,7 +49,7 @@ commandBytes b a = if (eqb (a .number) 0) (chipBytes (a .chip)) b
 abbrev pub written : List ℕ → Outcome → Acted
 written b o = acted (bare (o .answer)) (writeBytes b (o .answer .chip)) (o .ram)
 
--- the action that the control lines ask for, on one chip record and its 320 bytes
+-- the action of a bus record that is not refused, on one chip record and its 320 bytes: lines other than 3, 4 and 5 write a command
 unfoldable pub actionOn : ℕ → ℕ → List ℕ → List ℕ → Acted
 actionOn lines byte b ram =
     if (eqb lines 3) (written b (dataWrite byte (registersIn b) ram))
@@ -63,6 +64,10 @@ busRefusal r =
     (if (leb 2 (r .chip)) 5
     (if (eqb (readLine (r .lines)) (writeLine (r .lines))) 6
     0))
+
+-- where part k of two parts of n bytes begins
+abbrev pub startOf : ℕ → ℕ → ℕ
+startOf n k = if (eqb k 0) 0 n
 
 -- the front or the rear of two parts of n bytes
 abbrev pub partAt : ℕ → ℕ → List ℕ → List ℕ

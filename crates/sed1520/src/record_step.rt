@@ -1,10 +1,11 @@
-// A bus record given to the chip record that it names: the chip's own actions, each storing only the bytes that it changes.
+// A bus record given to the chip record that it names. The actions are the chip's own; each stores only the bytes of the
+// record that it may change.
 ghost use Prim.Native.Nat.{_≤_};
 ghost use mathlib.Core.Path.{_≡_};
 ghost use lib.ListN.{length};
 ghost use Rattle.sed1520.specs.ChipRecord.{registersIn};
 ghost use Rattle.sed1520.specs.Cycle.{commandWrite, dataWrite, dataRead};
-ghost use Rattle.sed1520.specs.RecordStep.{bare, bareRefusal, acted, readBytes, commandBytes, written, actionOn, stepRecords};
+ghost use Rattle.sed1520.specs.RecordStep.{bare, bareRefusal, acted, readBytes, commandBytes, written, actionOn, startOf, stepRecords};
 use crate::actions::Answer;
 use crate::bus::IMAGE_BYTES;
 use crate::bus::Record;
@@ -86,7 +87,8 @@ fn write_command(bytes: &mut [u8], byte: u8) -> BareAnswer
     bare(answer)
 }
 
-// The action that the control lines ask for, on one chip's record and its part of the image.
+// The action of a bus record that is not refused, on one chip's record and its part of the image: lines other than 3, 4
+// and 5 write a command.
 fn act(lines: u8, byte: u8, bytes: &mut [u8], ram: &mut [u8]) -> BareAnswer
     requires { ⌜ length (now bytes) ≡ 12 ⌝ }
     ensures { λ r. ⌜ acted r (now (bytes .exit)) (now (ram .exit)) ≡ actionOn lines byte (now (bytes .entry)) (now (ram .entry)) ⌝ }
@@ -99,8 +101,16 @@ fn act(lines: u8, byte: u8, bytes: &mut [u8], ram: &mut [u8]) -> BareAnswer
     }
 }
 
-// Gives a bus record to the chip record that it names, with that chip's part of the image. THIS IS NO CYCLE: it refuses wrong lengths by number 1 and
-// wrong bus records by numbers 4 to 8, but it does not test the chip records (number 2). It is for a caller that has tested both once, as the replay does.
+// Where a chip's part of two parts begins.
+fn start_of(chip: u8, size: usize) -> usize
+    ensures { λ r. ⌜ r ≡ startOf size chip ⌝ }
+{
+    if chip == 0 { 0 } else { size }
+}
+
+// Gives a bus record to the chip record that it names, with that chip's part of the image. This is no cycle: it refuses
+// wrong lengths by number 1 and wrong bus records by numbers 4 to 8, but it does not test the chip records (number 2).
+// It is for a caller that has tested both once, as the replay does.
 pub fn step_of_tested_records(bus: Record, chips: &mut [u8], ram: &mut [u8]) -> BareAnswer
     ensures { λ r. ⌜ acted r (now (chips .exit)) (now (ram .exit)) ≡ stepRecords bus (now (chips .entry)) (now (ram .entry)) ⌝ }
 {
@@ -114,8 +124,8 @@ pub fn step_of_tested_records(bus: Record, chips: &mut [u8], ram: &mut [u8]) -> 
     if number != 0 {
         return refused(number);
     }
-    let from = CHIP_BYTES * (bus.chip as usize);
-    let start = Chip::RAM_WIDTH * (bus.chip as usize);
+    let from = start_of(bus.chip, CHIP_BYTES);
+    let start = start_of(bus.chip, Chip::RAM_WIDTH);
     act(
         bus.lines,
         bus.byte,

@@ -2,7 +2,7 @@
 use native.Mathlib.Omega.{arith}
 use mathlib.Core.Path.{sym, _∙_}
 use Rattle.sed1520.proofs.RecordStepCases.{chips-wrong, image-wrong, bus-wrong, on-parts}
-use Rattle.sed1520.proofs.StepCases.{asks}
+use Rattle.sed1520.proofs.TwoParts.{start-within}
 use borrow.Author.Needs.{needs}
 use Rattle.sed1520.proofs.record_step.step_of_tested_records.Statement.{statement}
 use Rattle.sed1520.proofs.record_step.step_of_tested_records.Tie as tie
@@ -18,23 +18,37 @@ returns-3 c =
     let told = c .before .before .refusal .ensures in
     rw (c .refused3 .ensures, told) (sym (bus-wrong _ _ _ (omega arith) (omega arith) (λ e. c .before .if3 .taken (told ∙ e))))
 
+add-act : tie.Need-add-act
+add-act c =
+    let passed = c .before .before in
+    let chip = passed .before .before .before .before .before .before .args .bus .chip in
+    omega (arith, start-within 12 chip _ (c .before .start-of .ensures))
+
 part-act-end : tie.Need-part-act-end
 part-act-end c =
     let passed = c .before .before in
-    let asked = asks _ (sym (passed .before .refusal .ensures) ∙ passed .if3 .left) in
-    omega arith
+    let chip = passed .before .before .before .before .before .before .args .bus .chip in
+    omega (arith, start-within 12 chip _ (c .before .start-of .ensures))
+
+add-act-2 : tie.Need-add-act-2
+add-act-2 c =
+    let passed = c .before .before .before in
+    let chip = passed .before .before .before .before .before .before .args .bus .chip in
+    omega (arith, start-within 320 chip _ (c .before .start-of2 .ensures))
 
 part-act-end-2 : tie.Need-part-act-end-2
 part-act-end-2 c =
     let passed = c .before .before .before in
-    let asked = asks _ (sym (passed .before .refusal .ensures) ∙ passed .if3 .left) in
-    omega arith
+    let chip = passed .before .before .before .before .before .before .args .bus .chip in
+    omega (arith, start-within 320 chip _ (c .before .start-of2 .ensures))
 
 returns-4 : tie.Need-returns-4
 returns-4 c =
     let done = c .before .before .before .before in
-    let passed = done .before .before .before .before .before in
-    on-parts _ _ _ (omega arith) (omega arith) (sym (passed .before .refusal .ensures) ∙ passed .if3 .left) _ _ _ (done .act .ensures)
+    let image = done .before .before .before in
+    let records = image .before in
+    let passed = records .before in
+    on-parts _ _ _ (omega arith) (omega arith) (sym (passed .before .refusal .ensures) ∙ passed .if3 .left) _ _ (records .start-of .ensures) (image .start-of2 .ensures) _ _ _ (done .act .ensures)
 
 pub step-of-tested-records-spec : {M : Type 1} → statement M
 step-of-tested-records-spec =
@@ -47,15 +61,13 @@ step-of-tested-records-spec =
     (λ c κs. search needs)
     (λ c κs. search needs)
     returns-3
-    (λ c. search needs)
-    (λ c. search needs)
-    (λ c. search needs)
-    (λ c. search needs)
-    (λ c. search needs)
+    (λ c κs. search needs)
+    (λ c κs. search needs)
+    add-act
     (λ c. search needs)
     (λ c. search needs)
     part-act-end
-    (λ c. search needs)
+    add-act-2
     (λ c. search needs)
     (λ c. search needs)
     part-act-end-2
