@@ -1,2 +1,4 @@
 pub mod AnswersUnpack
 pub mod OnChips
+pub mod CallsRefuse
+pub mod Shown

@@ -14,8 +14,11 @@ module _ (chips buffer : List ℕ) (call : Chip → Chip → BufferCall) where
   unfolding onChips
   wrong-length h = rw (ne-eqb (length chips) 24 h)
 
+  pub on-chips : length chips ≡ 24 → onChips chips buffer call ≡ call (chipsIn chips .left) (chipsIn chips .right)
+  unfolding onChips
+  on-chips h = rw (eq-eqb (length chips) 24 h)
+
   -- what the callee gave on the chips that were read
   pub called : length chips ≡ 24 → (both : Chips) → both ≡ chipsIn chips → (given : BufferCall) → given ≡ call (both .left) (both .right)
       → given ≡ onChips chips buffer call
-  unfolding onChips
-  called h both read given e = e ∙ rw (read, eq-eqb (length chips) 24 h)
+  called h both read given e = e ∙ rw read (sym (on-chips h))

@@ -1,2 +1,4 @@
 pub mod Call
 pub mod Promises
+pub mod Refusals
+pub mod Shown

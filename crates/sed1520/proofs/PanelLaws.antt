@@ -3,13 +3,13 @@ use Prim.Native.Nat.{ℕ, _+_, _-_}
 use native.Mathlib.Omega.{arith}
 use mathlib.Core.Path.{_≡_, refl, _∙_}
 use mathlib.Core.Bool.{Bool, true, false}
-use mathlib.Core.List.{List, _++_}
+use mathlib.Core.List.{List, [], _∷_, _++_}
 use lib.Dec.{eqb}
 use lib.ListN.{length, take, drop, length-append, length-drop, take-append-drop}
 use lib.Seq.{length-take-le, take-at, drop-at}
 use Rattle.sed1520.specs.Choice.{if}
 use Rattle.sed1520.specs.Chip.{inRange}
-use Rattle.sed1520.specs.Panel.{Panel, chipAt, ramAt, outcomeOf, stepped}
+use Rattle.sed1520.specs.Panel.{Panel, chipAt, ramAt, outcomeOf, stepped, after}
 use Rattle.sed1520.specs.Promises.{EveryHalfWhole, Apart, EveryRecordApart}
 use Rattle.sed1520.specs.declared.registers.Chip.{Chip}
 use Rattle.sed1520.specs.declared.bus.Record.{Record}
@@ -102,3 +102,16 @@ every-record-apart = apart
 
 pub every-half-whole : EveryHalfWhole
 every-half-whole = half-length
+
+-- so they do after any records, and the image keeps its length
+pub record Whole (p : Panel) : Type 0 where
+  pub left : inRange (p .left) ≡ true
+  pub right : inRange (p .right) ≡ true
+  pub image : length (p .ram) ≡ 640
+
+pub after-whole : (rs : List Record) (p : Panel) → Whole p → Whole (after p rs)
+unfolding after
+after-whole [] p w = w
+after-whole (r ∷ rs) p w =
+    let range = chips-in-range p r (w .left) (w .right) in
+    after-whole rs (stepped p r) (record { left = range .0; right = range .1; image = apart p (w .image) r .image })

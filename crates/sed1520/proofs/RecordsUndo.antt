@@ -10,6 +10,7 @@ use lib.Seq.{drop-cons, take-at, drop-at, length-take-le}
 use borrow.Author.Tests.{ltb-true, eqb-true, eq-eqb}
 use Rattle.sed1520.specs.Chip.{inRange, fresh, latched}
 use Rattle.sed1520.specs.declared.registers.Chip.{Chip}
+use Rattle.sed1520.specs.declared.chip_record.Chips.{Chips}
 use Rattle.sed1520.specs.declared.registers.ReadLatch.{ReadLatch}
 use Rattle.sed1520.specs.declared.registers.ReadLatch.the-variants.{Fresh, Stale}
 use Rattle.sed1520.proofs.Tests.{both, when}
@@ -110,6 +111,14 @@ whole c = rw (marked c, read-back c)
 pub two-chips : (chips : List ℕ) → length chips ≡ 24 → chipsIn chips ≡ chipsOf (chipIn (take 12 chips)) (chipIn (drop 12 chips))
 unfolding chipsIn
 two-chips chips h = rw (eq-eqb (length chips) 24 h)
+
+-- number 2 of two chips is that of their records
+module _ (chips : List ℕ) (records : length chips ≡ 24) (t : Bool) where
+  pub left-passes : recordRight (take 12 chips) ≡ t → inRange (chipsIn chips .left) ≡ t
+  left-passes e = ap (λ (c : Chips). inRange (c .left)) (two-chips chips records) ∙ passes (take 12 chips) ∙ e
+
+  pub right-passes : recordRight (drop 12 chips) ≡ t → inRange (chipsIn chips .right) ≡ t
+  right-passes e = ap (λ (c : Chips). inRange (c .right)) (two-chips chips records) ∙ passes (drop 12 chips) ∙ e
 
 pub two-length : (left right : Chip) → length (chipsBytes left right) ≡ 24
 two-length left right = length-append (chipBytes left) (chipBytes right) ∙ omega (arith, record-length left, record-length right)

@@ -1,6 +1,7 @@
 pub mod AfterEach
 pub mod Bounds
 pub mod InPlace
+pub mod RefusedBefore
 pub mod ReplayCases
 pub mod Resumed
 pub mod Upto

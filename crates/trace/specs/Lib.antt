@@ -1,2 +1,3 @@
 pub mod Replay
 pub mod Promises
+pub mod Refusals
