@@ -1,7 +1,7 @@
--- Demand 3 of the minutes: of a repaint's 254 cycles only the last two change what the panel shows, the left half first. So only between these
--- two does it tear (document 00: a mixed name); stopped just there, it stays so until a later repaint is sent whole. One statement about a whole
--- list of repaints, from any panel whose chips are both ready, each repaint beginning where the one before it left the panel, each stopped after
--- any whole cycle.
+-- Demand 3 of the minutes: of a repaint's 254 cycles only the last two can change what the panel shows, the left half first. So a repaint tears
+-- the panel (document 00: a mixed name) only between these two; stopped just there, the panel stays so until a later repaint is sent whole. One
+-- statement about a whole list of repaints, from any panel whose chips are both ready, each repaint beginning where the one before it left the
+-- panel, each stopped after any whole cycle.
 use Prim.Native.Nat.{ℕ, _+_, _*_, _≤_, _<_}
 use mathlib.Core.Path.{_≡_}
 use mathlib.Core.Bool.{true, false, _||_}
@@ -52,7 +52,8 @@ sentSoFar p q k = after p (recordsIn (asked p q .buffer) k)
 abbrev pub leaves : Panel → Request → Panel
 leaves p q = if (eqb (asked p q .answer .number) 0) (sentSoFar p q (q .stop)) p
 
--- what the panel shows: the bytes that the frame's call leaves in a buffer of 488, called as the panel stands
+-- what the panel shows: the bytes that the frame's call leaves in a buffer of 488, called as the panel stands; what the buffer held, here 0, does
+-- not matter (FrameGiven)
 unfoldable pub shown : Panel → List ℕ
 shown p = framed (p .left) (p .right) (p .ram) (replicate frameBytes 0) .frame
 
