@@ -8,13 +8,20 @@ use borrow.Author.Needs.{needs}
 use Rattle.trace.proofs.replay.Statement.{statement}
 use Rattle.trace.proofs.replay.Tie as tie
 
+-- the places before the chips are read back: the replay, and the records written for it
+abbrev replayed : tie.After-chips-in → tie.After-replay-in-place
+replayed c = c .before .before .before .before .before .before .before
+
+abbrev written : tie.After-replay-in-place → tie.After-chips-bytes
+written c = c .before .before .before .before
+
 returns : tie.Need-returns
 returns c =
-    let ran = c .before .before .before .before .before .before .before .before .before in
-    let written = ran .before .before .before .before in
-    let at = written .before .before .before .before .args in
-    let from = ap (λ (b : List ℕ). replayInPlace b (at .ram .now) (at .trace .now) (at .answers .now)) (written .chips-bytes .ensures) in
-    rw (c .before .before .chips-in .ensures) (by-value (at .left) (at .right) _ _ _ _ (ran .replay-in-place .ensures ∙ from))
+    let read = c .before .before in
+    let ran = replayed read in
+    let at = written ran .before .before .before .before .args in
+    let from = ap (λ (b : List ℕ). replayInPlace b (at .ram .now) (at .trace .now) (at .answers .now)) (written ran .chips-bytes .ensures) in
+    rw (read .chips-in .ensures) (by-value (at .left) (at .right) _ _ _ _ (ran .replay-in-place .ensures ∙ from))
 
 pub replay-spec : {M : Type 1} → statement M
 replay-spec =
