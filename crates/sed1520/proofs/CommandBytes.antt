@@ -10,7 +10,7 @@ use mathlib.Core.Option.{none, some, Option·none-ne-some as none-ne-some, Optio
 use lib.Dec.{ltb, leb, eqb}
 use borrow.Author.Tests.{lt-ltb, le-ltb, le-leb, lt-leb, leb-true, ltb-true, eqb-true}
 use Rattle.sed1520.proofs.Tests.{tested, either, both}
-use Rattle.sed1520.specs.Command.{first, count, kinds, within, among, told}
+use Rattle.sed1520.specs.Command.{first, count, kinds, within, among}
 use Rattle.sed1520.specs.declared.commands.Kind.{Kind}
 use Rattle.sed1520.specs.declared.commands.Kind.the-variants.{Display, StartLine, Page, Column, Adc, Static, Duty, Modify, End, Reset}
 

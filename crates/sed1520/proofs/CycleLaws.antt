@@ -4,7 +4,7 @@ use native.Mathlib.Omega.{arith}
 use mathlib.Core.Path.{_≡_, refl, ap, _∙_}
 use mathlib.Core.Bool.{false}
 use mathlib.Core.List.{List}
-use lib.ListN.{length, set}
+use lib.ListN.{set}
 use Rattle.sed1520.specs.Chip.{withPage, withColumn, withStartLine}
 use Rattle.sed1520.specs.Command.{first, count, Told}
 use Rattle.sed1520.specs.Memory.{ramIndex}

@@ -1,5 +1,5 @@
 -- Two chips on one bus: a record changes its own chip and that chip's 320 bytes, and leaves the other chip and its bytes alone.
-use Prim.Native.Nat.{ℕ, _+_, _-_}
+use Prim.Native.Nat.{ℕ}
 use native.Mathlib.Omega.{arith}
 use mathlib.Core.Path.{_≡_, refl, _∙_}
 use mathlib.Core.Bool.{Bool, true, false}

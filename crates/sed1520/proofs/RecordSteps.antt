@@ -8,20 +8,19 @@ use mathlib.Core.Logic.{⊎-elim}
 use mathlib.Core.Option.{Option, none, some}
 use lib.Dec.{ltb, eqb}
 use lib.ListN.{length, take, drop}
-use borrow.Author.Tests.{eq-eqb, eqb-true, eqb-false}
+use borrow.Author.Tests.{eqb-true, eqb-false}
 use Rattle.sed1520.specs.Choice.{if}
 use Rattle.sed1520.specs.Chip.{inRange}
 use Rattle.sed1520.specs.ChipRecord.{chipBytes, registersIn, marksRight, recordRight, chipIn, panelIn}
 use Rattle.sed1520.specs.Command.{decodeOf}
 use Rattle.sed1520.specs.Cycle.{Outcome, columnLocked, executed, commandWrite, dataWrite, afterRead, dataRead, actionOf, stepOf}
-use Rattle.sed1520.specs.Panel.{Panel, panelOf, chipAt, ramAt, put, outcomeOf, stepped}
-use Rattle.sed1520.specs.Promises.{RecordsFit, StepsPanel, EveryRecordStep}
+use Rattle.sed1520.specs.Panel.{panelOf, chipAt, put, outcomeOf, stepped}
+use Rattle.sed1520.specs.Promises.{RecordsFit, EveryRecordStep}
 use Rattle.sed1520.specs.RecordStep.{bare, Acted, acted, writeBytes, readBytes, commandBytes, actionOn, busRefusal, partAt, partPut, putBack, stepRecords}
 use Rattle.sed1520.specs.declared.actions.Answer.{Answer}
 use Rattle.sed1520.specs.declared.registers.Chip.{Chip}
 use Rattle.sed1520.specs.declared.commands.Command.{Command}
 use Rattle.sed1520.specs.declared.bus.Record.{Record}
-use Rattle.sed1520.specs.declared.record_step.BareAnswer.{BareAnswer}
 use Rattle.sed1520.proofs.CycleKeeps.{cycle-keeps}
 use Rattle.sed1520.proofs.RecordStepCases.{on-write, on-status, on-read, on-command, bus-wrong, bus-right}
 use Rattle.sed1520.proofs.RecordsUndo.{record-length, read-back, marked-in, written-back, there, whole, two-chips}

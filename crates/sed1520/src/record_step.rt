@@ -1,5 +1,4 @@
 // A bus record given to the chip record that it names: the chip's own actions, each storing only the bytes that it changes.
-ghost use Prim.Native.Nat.{_≤_};
 ghost use mathlib.Core.Path.{_≡_};
 ghost use lib.ListN.{length};
 ghost use Rattle.sed1520.specs.ChipRecord.{registersIn};

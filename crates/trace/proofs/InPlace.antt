@@ -1,14 +1,12 @@
 -- A replay over chip records: where it refuses, the records stay; else they are those of the panel's chips.
-use Prim.Native.Nat.{ℕ, _/_, _%_}
+use Prim.Native.Nat.{ℕ}
 use mathlib.Core.Path.{_≡_, refl, sym, ap, _∙_}
-use mathlib.Core.Bool.{Bool, true, false, not, _&&_, true≢false}
+use mathlib.Core.Bool.{true, false, not, _&&_, true≢false}
 use mathlib.Core.List.{List}
-use lib.Dec.{eqb}
 use lib.ListN.{length, take, drop}
 use borrow.Author.Tests.{eq-eqb, ne-eqb, not-false}
-use Rattle.sed1520.specs.Choice.{if}
 use Rattle.sed1520.specs.Chip.{inRange}
-use Rattle.sed1520.specs.ChipRecord.{recordRight, chipIn, chipsBytes, chipsOf, chipsIn, panelIn}
+use Rattle.sed1520.specs.ChipRecord.{recordRight, chipIn, chipsBytes, chipsIn, panelIn}
 use Rattle.sed1520.specs.Panel.{Panel, panelOf}
 use Rattle.sed1520.specs.Promises.{RecordsFit}
 use Rattle.sed1520.specs.declared.registers.Chip.{Chip}
