@@ -1,7 +1,7 @@
 -- `sed1520::chip_record::chips_in` meets its contract, by the length.
 use native.Mathlib.Omega.{arith}
-use mathlib.Core.Path.{sym}
-use lib.ListN.{length}
+use mathlib.Core.Path.{_≡_, sym}
+use lib.ListN.{length, take}
 use lib.Seq.{length-take-le}
 use borrow.Author.Tests.{eq-eqb, ne-eqb}
 use Rattle.sed1520.specs.ChipRecord.{chipsIn}
@@ -14,11 +14,9 @@ returns : tie.Need-returns
 unfolding chipsIn
 returns c = rw (ne-eqb _ 24 (c .before .before .if1 .taken), c .before .no-chip .ensures, c .no-chip2 .ensures)
 
-slice-aggregate-chip-in : tie.Need-slice-aggregate-chip-in
-slice-aggregate-chip-in c = sym (length-take-le 12 (c .before .before .before .args .records .now) (omega arith))
-
-chip-in-requires : tie.Need-chip-in-requires
-chip-in-requires c κs = length-take-le 12 (c .before .before .before .args .records .now) (omega arith)
+-- the left chip's record is 12 bytes
+left-length : (c : tie.After-chip-in-arg) → length (take 12 (c .before .before .before .args .records .now)) ≡ 12
+left-length c = length-take-le 12 (c .before .before .before .args .records .now) (omega arith)
 
 returns-2 : tie.Need-returns-2
 unfolding chipsIn
@@ -33,8 +31,8 @@ chips-in-spec =
     (λ c κs. search needs)
     (λ c κs. search needs)
     returns
-    slice-aggregate-chip-in
-    chip-in-requires
+    (λ c. sym (left-length c))
+    (λ c κs. left-length c)
     (λ c. search needs)
     (λ c. search needs)
     (λ c. search needs)

@@ -8,7 +8,9 @@ use Rattle.sed1520.proofs.memory.load.Statement.{statement}
 use Rattle.sed1520.proofs.memory.load.Tie as tie
 
 returns : tie.Need-returns
-returns c = ap (λ (i : ℕ). getD (c .before .before .before .before .args .ram .now) i 0) (c .before .before .index .ensures)
+returns c =
+    let index = c .before .before in
+    ap (λ (i : ℕ). getD (index .before .before .args .ram .now) i 0) (index .index .ensures)
 
 returns-2 : tie.Need-returns-2
 returns-2 c = sym (List·getD-eq-default (c .before .before .before .args .ram .now) 0 (omega arith))

@@ -9,10 +9,12 @@ use Rattle.sed1520.proofs.memory.store.Statement.{statement}
 use Rattle.sed1520.proofs.memory.store.Tie as tie
 
 returns : tie.Need-returns
-returns c = ap (λ (i : ℕ). set (c .before .before .before .args .ram .now) i (c .before .before .before .args .byte)) (c .before .index .ensures)
+returns c =
+    let at = c .before .before .before .args in
+    ap (λ (i : ℕ). set (at .ram .now) i (at .byte)) (c .before .index .ensures)
 
 returns-2 : tie.Need-returns-2
-returns-2 c = sym (set-out (c .before .before .before .args .ram .now) _ _ (omega arith))
+returns-2 c = sym (set-out _ _ _ (omega arith))
 
 pub store-spec : {M : Type 1} → statement M
 store-spec = tie.close (tie.spec (λ c κs. search needs) (λ c. search needs) (λ c. search needs) returns returns-2)

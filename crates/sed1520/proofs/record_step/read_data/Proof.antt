@@ -15,7 +15,8 @@ returns c =
     let read = done .before in
     let at = read .before .before .before .before .args in
     let told = done .data-read .ensures ∙ ap (λ (k : Chip). dataRead k (at .ram .now)) (read .registers-in .ensures) in
-    (c .bare .ensures ∙ ap bare told, rw (marked .mark .ensures, c .before .byte .ensures) (ap (λ (a : Answer). readBytes (at .bytes .now) (a .chip)) told))
+    let stored = ap (λ (a : Answer). readBytes (at .bytes .now) (a .chip)) told in
+    (c .bare .ensures ∙ ap bare told, rw (marked .mark .ensures, c .before .byte .ensures) stored)
 
 pub read-data-spec : {M : Type 1} → statement M
 read-data-spec =
