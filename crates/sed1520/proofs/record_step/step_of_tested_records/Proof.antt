@@ -1,11 +1,16 @@
 -- `sed1520::record_step::step_of_tested_records` meets its contract: the action on the parts of the records and of the image that are the chip's.
 use native.Mathlib.Omega.{arith}
-use mathlib.Core.Path.{sym, _∙_}
+use mathlib.Core.Path.{_≡_, sym, _∙_}
+use Rattle.sed1520.specs.RecordStep.{busRefusal}
 use Rattle.sed1520.proofs.RecordStepCases.{chips-wrong, image-wrong, bus-wrong, on-parts}
 use Rattle.sed1520.proofs.StepCases.{asks}
 use borrow.Author.Needs.{needs}
 use Rattle.sed1520.proofs.record_step.step_of_tested_records.Statement.{statement}
 use Rattle.sed1520.proofs.record_step.step_of_tested_records.Tie as tie
+
+-- the bus record is not refused
+not-refused : (c : tie.Else3) → busRefusal (c .before .before .before .before .before .before .args .bus) ≡ 0
+not-refused c = sym (c .before .refusal .ensures) ∙ c .if3 .left
 
 returns : tie.Need-returns
 returns c = rw (c .refused .ensures) (sym (chips-wrong _ _ _ (c .before .if1 .taken)))
@@ -19,22 +24,16 @@ returns-3 c =
     rw (c .refused3 .ensures, told) (sym (bus-wrong _ _ _ (omega arith) (omega arith) (λ e. c .before .if3 .taken (told ∙ e))))
 
 part-act-end : tie.Need-part-act-end
-part-act-end c =
-    let passed = c .before .before in
-    let asked = asks _ (sym (passed .before .refusal .ensures) ∙ passed .if3 .left) in
-    omega arith
+part-act-end c = let asked = asks _ (not-refused (c .before .before)) in omega arith
 
 part-act-end-2 : tie.Need-part-act-end-2
-part-act-end-2 c =
-    let passed = c .before .before .before in
-    let asked = asks _ (sym (passed .before .refusal .ensures) ∙ passed .if3 .left) in
-    omega arith
+part-act-end-2 c = let asked = asks _ (not-refused (c .before .before .before)) in omega arith
 
 returns-4 : tie.Need-returns-4
 returns-4 c =
     let done = c .before .before .before .before in
     let passed = done .before .before .before .before .before in
-    on-parts _ _ _ (omega arith) (omega arith) (sym (passed .before .refusal .ensures) ∙ passed .if3 .left) _ _ _ (done .act .ensures)
+    on-parts _ _ _ (omega arith) (omega arith) (not-refused passed) _ _ _ (done .act .ensures)
 
 pub step-of-tested-records-spec : {M : Type 1} → statement M
 step-of-tested-records-spec =
