@@ -1,5 +1,6 @@
--- A bus record given to the chip record that it names, numbers 1 and 4 to 8 refused and number 2 not tested: a step and no cycle. Each action stores only
--- the bytes of the chip record that it changes. For two records that number 2 lets pass it is the cycle of the chip that the bus record names (Promises).
+-- A bus record given to the chip record that it names, numbers 1 and 4 to 8 refused and number 2 not tested: a step and no cycle. Each
+-- action stores only the bytes of the chip record that it changes. For two records that number 2 lets pass it is the cycle of the chip that
+-- the bus record names (Promises).
 use Prim.Native.Nat.{ℕ}
 use mathlib.Core.Bool.{not, _||_}
 use mathlib.Core.List.{List, _++_}

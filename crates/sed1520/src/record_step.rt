@@ -59,7 +59,8 @@ fn write_data(bytes: &mut [u8], byte: u8, ram: &mut [u8]) -> BareAnswer
 fn read_data(bytes: &mut [u8], ram: &[u8]) -> BareAnswer
     requires { ⌜ length (now bytes) ≡ 12 ⌝ }
     ensures answer { λ r. ⌜ r ≡ bare (dataRead (registersIn (now (bytes .entry))) (now (ram .entry))) ⌝ }
-    ensures bytes { λ _. ⌜ now (bytes .exit) ≡ readBytes (now (bytes .entry)) (dataRead (registersIn (now (bytes .entry))) (now (ram .entry)) .chip) ⌝ }
+    ensures bytes { λ _. ⌜ now (bytes .exit)
+        ≡ readBytes (now (bytes .entry)) (dataRead (registersIn (now (bytes .entry))) (now (ram .entry)) .chip) ⌝ }
 {
     let answer = registers_in(bytes).data_read(ram);
     let after = answer.chip;
@@ -98,8 +99,9 @@ fn act(lines: u8, byte: u8, bytes: &mut [u8], ram: &mut [u8]) -> BareAnswer
     }
 }
 
-// Gives a bus record to the chip record that it names, with that chip's part of the image. THIS IS NO CYCLE: it refuses wrong lengths by number 1 and
-// wrong bus records by numbers 4 to 8, but it does not test the chip records (number 2). It is for a caller that has tested both once, as the replay does.
+// Gives a bus record to the chip record that it names, with that chip's part of the image. THIS IS NO CYCLE: it refuses wrong lengths by
+// number 1 and wrong bus records by numbers 4 to 8, but it does not test the chip records (number 2). It is for a caller that has tested
+// both once, as the replay does.
 pub fn step_of_tested_records(bus: Record, chips: &mut [u8], ram: &mut [u8]) -> BareAnswer
     ensures { λ r. ⌜ acted r (now (chips .exit)) (now (ram .exit)) ≡ stepRecords bus (now (chips .entry)) (now (ram .entry)) ⌝ }
 {
