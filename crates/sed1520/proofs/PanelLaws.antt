@@ -90,13 +90,6 @@ refused-record p r h =
     put-back true = rw (take-append-drop 320 (p .ram))
     put-back false = rw (take-append-drop 320 (p .ram))
 
--- chips in range stay in range
-pub chips-in-range : (p : Panel) (r : Record) → inRange (p .left) ≡ true → inRange (p .right) ≡ true → (inRange (stepped p r .left) ≡ true) × (inRange (stepped p r .right) ≡ true)
-unfolding stepped outcomeOf
-chips-in-range p r left right =
-    let own = cycle-keeps (chipAt p (r .chip)) (ramAt p (r .chip)) r .range (when (λ (c : Chip). inRange c ≡ true) (eqb (r .chip) 0) (λ _. left) (λ _. right)) in
-    (when (λ (q : Panel). inRange (q .left) ≡ true) (eqb (r .chip) 0) (λ _. own) (λ _. left), when (λ (q : Panel). inRange (q .right) ≡ true) (eqb (r .chip) 0) (λ _. right) (λ _. own))
-
 pub every-record-apart : EveryRecordApart
 every-record-apart = apart
 

@@ -9,7 +9,8 @@ use lib.ListN.{length, take, drop}
 use borrow.Author.Tests.{eq-eqb, ne-eqb}
 use Rattle.sed1520.specs.ChipRecord.{registersIn}
 use Rattle.sed1520.specs.Cycle.{commandWrite, dataWrite, dataRead, statusRead}
-use Rattle.sed1520.specs.RecordStep.{bare, bareRefusal, acted, readBytes, commandBytes, written, actionOn, busRefusal, partAt, putBack, stepRecords}
+use Rattle.sed1520.specs.RecordStep.{bare, bareRefusal, acted, readBytes, commandBytes, written, actionOn}
+use Rattle.sed1520.specs.RecordStep.{busRefusal, partAt, putBack, stepRecords}
 use Rattle.sed1520.specs.declared.bus.Record.{Record}
 use Rattle.sed1520.specs.declared.record_step.BareAnswer.{BareAnswer}
 use Rattle.sed1520.proofs.StepCases.{asks}

@@ -42,7 +42,7 @@ module _ (n k s : ℕ) (bytes : List ℕ) (two : length bytes ≡ n + n) (front 
   part-back part =
       ⊎-elim
       (λ l. rw (size, front (eqb-true k 0 l), l))
-      (λ r. rw (size, rear (eqb-false k 0 r), r) (ap (λ (rest : List ℕ). take n bytes ++ (part ++ rest)) (past n (drop n bytes) last) ∙ rw append-nil))
+      (λ r. rw (size, rear (eqb-false k 0 r), r) (rw (past n (drop n bytes) last, append-nil)))
       (tested (eqb k 0))
 
 module _ (n k : ℕ) (bytes : List ℕ) (two : length bytes ≡ n + n) where
