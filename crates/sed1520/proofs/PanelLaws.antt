@@ -8,7 +8,6 @@ use lib.Dec.{eqb}
 use lib.ListN.{length, take, drop, length-append, length-drop, take-append-drop}
 use lib.Seq.{length-take-le, take-at, drop-at}
 use Rattle.sed1520.specs.Choice.{if}
-use Rattle.sed1520.specs.Chip.{inRange}
 use Rattle.sed1520.specs.Panel.{Panel, chipAt, ramAt, outcomeOf, stepped}
 use Rattle.sed1520.specs.Promises.{EveryHalfWhole, Apart, EveryRecordApart}
 use Rattle.sed1520.specs.declared.registers.Chip.{Chip}
