@@ -10,11 +10,18 @@ use borrow.Author.Needs.{needs}
 use Rattle.sed1520.proofs.bus.cycle.Statement.{statement}
 use Rattle.sed1520.proofs.bus.cycle.Tie as tie
 
--- what the test of the registers and that of the bus record showed
-within : (c : tie.Else2) → inRange (c .before .before .before .before .args .chip) ≡ true
+-- the start, from past the test of the registers and past that of the bus record
+abbrev second : tie.Else2 → tie.Start
+second c = c .before .before .before .before
+
+abbrev third : tie.Else3 → tie.Start
+third c = second (c .before .before)
+
+-- what these tests showed
+within : (c : tie.Else2) → inRange (second c .args .chip) ≡ true
 within c = sym (c .before .in-range .ensures) ∙ not-false _ (c .if2 .left)
 
-not-refused : (c : tie.Else3) → busRefusal (c .before .before .before .before .before .before .args .bus) ≡ 0
+not-refused : (c : tie.Else3) → busRefusal (third c .args .bus) ≡ 0
 not-refused c = sym (c .before .refusal .ensures) ∙ c .if3 .left
 
 returns : tie.Need-returns

@@ -8,8 +8,11 @@ use borrow.Author.Needs.{needs}
 use Rattle.sed1520.proofs.record_step.step_of_tested_records.Statement.{statement}
 use Rattle.sed1520.proofs.record_step.step_of_tested_records.Tie as tie
 
--- the bus record is not refused
-not-refused : (c : tie.Else3) → busRefusal (c .before .before .before .before .before .before .args .bus) ≡ 0
+-- the start, from past the tests, and what the last of them showed
+abbrev start : tie.Else3 → tie.Start
+start c = c .before .before .before .before .before .before
+
+not-refused : (c : tie.Else3) → busRefusal (start c .args .bus) ≡ 0
 not-refused c = sym (c .before .refusal .ensures) ∙ c .if3 .left
 
 returns : tie.Need-returns
