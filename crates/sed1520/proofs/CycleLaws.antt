@@ -8,7 +8,7 @@ use lib.ListN.{set}
 use Rattle.sed1520.specs.Chip.{withPage, withColumn, withStartLine}
 use Rattle.sed1520.specs.Command.{first, count, Told}
 use Rattle.sed1520.specs.Memory.{ramIndex}
-use Rattle.sed1520.specs.Cycle.{Outcome, outcome, answered, execute, columnLocked, actionOf, cycleOf}
+use Rattle.sed1520.specs.Cycle.{outcome, answered, execute, columnLocked, actionOf, cycleOf}
 use Rattle.sed1520.specs.Laws.{registers, sent, Fit, Accepts, CycleLaws}
 use Rattle.sed1520.specs.declared.registers.Chip.{Chip}
 use Rattle.sed1520.specs.declared.commands.Kind.{Kind}
@@ -27,10 +27,10 @@ module _ (c : Chip) (ram : List ℕ) (fit : Fit c ram) where
   accepted r next after e =
       let keeps = cycle-keeps c ram r in
       record {
-        number = ap (λ (o : Outcome). o .answer .number) e;
+        number = rw e;
         place = keeps .place;
-        shown = ap (λ (o : Outcome). registers (o .answer .chip)) e;
-        stored = ap (λ (o : Outcome). o .ram) e;
+        shown = rw e;
+        stored = rw e;
         fit = record { range = keeps .range (fit .range); bytes = keeps .same-size ∙ fit .bytes };
       }
 

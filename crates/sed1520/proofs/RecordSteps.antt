@@ -174,9 +174,9 @@ every-record-step r chips ram fit =
     let o = outcomeOf (panelIn chips ram) r in
     let same = on-panel r chips ram fit in
     record {
-      number = ap (λ (a : Acted). a .answer .number) same;
-      kind = ap (λ (a : Acted). a .answer .kind) same;
-      byte = ap (λ (a : Acted). a .answer .byte) same;
-      panel = ap (λ (a : Acted). panelIn (a .chips) (a .ram)) same ∙ put-record chips ram (r .chip) (o .answer .chip) (o .ram) fit;
+      number = rw same;
+      kind = rw same;
+      byte = rw same;
+      panel = rw same (put-record chips ram (r .chip) (o .answer .chip) (o .ram) fit);
       fit = rw same (put-fit chips ram (r .chip) (o .answer .chip) (o .ram) fit (next-range r chips ram fit) (next-ram r chips ram fit));
     }

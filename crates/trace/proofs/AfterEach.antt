@@ -1,7 +1,7 @@
 -- For every k up to the place, the replay of the first k records is done and leaves what the whole replay had after k.
 use Prim.Native.Nat.{ℕ, zero, suc, _+_, _*_, _/_, _<_, _≤_}
 use native.Mathlib.Omega.{arith}
-use mathlib.Core.Path.{_≡_, refl, ap, _∙_}
+use mathlib.Core.Path.{_≡_, refl, _∙_}
 use mathlib.Core.Bool.{true, false}
 use mathlib.Core.List.{List, [], _∷_, _++_}
 use mathlib.Core.Logic.{⊎-elim}
@@ -12,7 +12,7 @@ use Rattle.sed1520.specs.Panel.{Panel, outcomeOf, stepped, after}
 use Rattle.sed1520.specs.declared.bus.Record.{Record}
 use Rattle.sed1520.proofs.Tests.{tested}
 use Rattle.sed1520.specs.Records.{front, recordsIn, wholeRecords}
-use Rattle.trace.specs.Replay.{Reply, Run, replied, runOf, differingIn, Outcome, ended, replayOf}
+use Rattle.trace.specs.Replay.{Reply, Run, replied, runOf, differingIn, ended, replayOf}
 use Rattle.trace.specs.Promises.{Runs, repliesOf, AfterEach, AfterEachRecord}
 use Rattle.trace.proofs.ReplayCases.{runs}
 
@@ -137,12 +137,12 @@ module _ (p : Panel) (trace answers : List ℕ) (r : Runs p trace answers) (k : 
   unfolding ended
   after-each =
       record {
-        number = ap (λ (o : Outcome). o .number) prefix;
-        place = ap (λ (o : Outcome). o .place) prefix ∙ replied-length;
-        compared = ap (λ (o : Outcome). o .compared) prefix;
-        differing = ap (λ (o : Outcome). o .differing) prefix ∙ differing-prefix k (repliesOf p trace) (wholeRecords trace);
-        panel = ap (λ (o : Outcome). o .panel) prefix;
-        answers-then = ap (λ (o : Outcome). o .answers) prefix ∙ rw replied-length;
+        number = rw prefix;
+        place = rw prefix replied-length;
+        compared = rw prefix;
+        differing = rw prefix (differing-prefix k (repliesOf p trace) (wholeRecords trace));
+        panel = rw prefix;
+        answers-then = rw (prefix, replied-length);
       }
 
 pub after-each-record : AfterEachRecord

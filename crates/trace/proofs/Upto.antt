@@ -11,7 +11,7 @@ use Rattle.sed1520.specs.Choice.{if}
 use Rattle.sed1520.specs.ChipRecord.{panelIn}
 use Rattle.sed1520.specs.Panel.{Panel, outcomeOf, stepped}
 use Rattle.sed1520.specs.Promises.{RecordsFit}
-use Rattle.sed1520.specs.RecordStep.{Acted, acted, stepRecords}
+use Rattle.sed1520.specs.RecordStep.{acted, stepRecords}
 use Rattle.sed1520.specs.Records.{front, recordsIn, wholeRecords}
 use Rattle.sed1520.specs.declared.bus.Record.{Record}
 use Rattle.sed1520.specs.declared.record_step.BareAnswer.{BareAnswer}
@@ -97,14 +97,11 @@ module _ {trace : List ℕ} {space : ℕ} {whole : Outcome} {chips ram answers :
     on-panel : Turned (panelIn chips ram) bus a chips′ ram′
     on-panel =
         let law = every-record-step bus chips ram (upto .fits) in
-        let number = ap (λ (o : Acted). o .answer .number) step in
-        let kind = ap (λ (o : Acted). o .answer .kind) step in
-        let byte = ap (λ (o : Acted). o .answer .byte) step in
         record {
-          number = number ∙ law .number;
-          kind = kind ∙ law .kind;
-          byte = byte ∙ law .byte;
-          panel = ap (λ (o : Acted). panelIn (o .chips) (o .ram)) step ∙ law .panel;
+          number = rw (← step) at (law .number);
+          kind = rw (← step) at (law .kind);
+          byte = rw (← step) at (law .byte);
+          panel = rw (← step) at (law .panel);
           fit = rw (← step) at (law .fit);
         }
 
