@@ -95,11 +95,11 @@ asOutcome i =
       answers = i .answers;
     }
 
-pub by-value : (left right : Chip) (ram trace answers : List ℕ) (i : InPlace) → i ≡ replayInPlace (chipsBytes left right) ram trace answers
-    → asOutcome i ≡ replayOf (panelOf left right ram) trace answers
-by-value left right ram trace answers i e =
+pub by-value : (left right : Chip) (chips ram trace answers : List ℕ) (i : InPlace) → chips ≡ chipsBytes left right
+    → i ≡ replayInPlace chips ram trace answers → asOutcome i ≡ replayOf (panelOf left right ram) trace answers
+by-value left right chips ram trace answers i theirs e =
     let whole = replayOf (panelOf left right ram) trace answers in
     let on-records = on-panel (chipsBytes left right) ram trace answers (two-length left right) in
-    let same = e ∙ (rw (two-there left right) at on-records) in
+    let same = (rw theirs at e) ∙ (rw (two-there left right) at on-records) in
     ap asOutcome same
     ∙ rw (panel-back left right ram (whole .panel) (out-of-range (panelOf left right ram) trace answers))

@@ -1,8 +1,4 @@
 -- `trace::replay` meets its contract: the replay over the records of both chips, read back.
-use mathlib.Core.Path.{ap, _∙_}
-use mathlib.Core.List.{List}
-use Prim.Native.Nat.{ℕ}
-use Rattle.trace.specs.Replay.{replayInPlace}
 use Rattle.trace.proofs.InPlace.{by-value}
 use borrow.Author.Needs.{needs}
 use Rattle.trace.proofs.replay.Statement.{statement}
@@ -19,9 +15,7 @@ returns : tie.Need-returns
 returns c =
     let read = c .before .before in
     let ran = replayed read in
-    let at = written ran .before .before .before .before .args in
-    let from = ap (λ (b : List ℕ). replayInPlace b (at .ram .now) (at .trace .now) (at .answers .now)) (written ran .chips-bytes .ensures) in
-    rw (read .chips-in .ensures) (by-value (at .left) (at .right) _ _ _ _ (ran .replay-in-place .ensures ∙ from))
+    rw (read .chips-in .ensures) (by-value _ _ _ _ _ _ _ (written ran .chips-bytes .ensures) (ran .replay-in-place .ensures))
 
 pub replay-spec : {M : Type 1} → statement M
 replay-spec =

@@ -1,17 +1,13 @@
 -- `sed1520::memory::store` meets its contract: a write past its end leaves a list as it is.
-use Prim.Native.Nat.{ℕ}
 use native.Mathlib.Omega.{arith}
-use mathlib.Core.Path.{ap, sym}
+use mathlib.Core.Path.{sym}
 use lib.Seq.{set-out}
-use lib.ListN.{set}
 use borrow.Author.Needs.{needs}
 use Rattle.sed1520.proofs.memory.store.Statement.{statement}
 use Rattle.sed1520.proofs.memory.store.Tie as tie
 
 returns : tie.Need-returns
-returns c =
-    let at = c .before .before .before .args in
-    ap (λ (i : ℕ). set (at .ram .now) i (at .byte)) (c .before .index .ensures)
+returns c = rw (c .before .index .ensures)
 
 returns-2 : tie.Need-returns-2
 returns-2 c = sym (set-out _ _ _ (omega arith))

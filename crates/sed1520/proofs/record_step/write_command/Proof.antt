@@ -11,7 +11,7 @@ use Rattle.sed1520.proofs.record_step.write_command.Tie as tie
 -- the answer is that of the command on the record's registers
 answered : (c : tie.After-command)
     → let at = c .before .before .before .before .args in c .command .result ≡ commandWrite (at .byte) (registersIn (at .bytes .now))
-answered c = c .command .ensures ∙ ap (commandWrite _) (c .before .registers-in .ensures)
+answered c = rw (c .before .registers-in .ensures) at (c .command .ensures)
 
 returns : tie.Need-returns
 returns c =
