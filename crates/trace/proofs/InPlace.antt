@@ -24,11 +24,11 @@ kept chips ram h =
     (λ _. refl)
 
 -- records that passed before and after are those of the panel afterwards
-pub settled-at : (from ram₀ chips ram answers : List ℕ) (n compared differing at : ℕ) (whole : Outcome)
+pub settled-at : {from ram₀ chips ram answers : List ℕ} {n compared differing at : ℕ} {whole : Outcome}
     → RecordsFit from ram₀ → RecordsFit chips ram
     → stoppedAt n compared differing at (panelIn chips ram) answers ≡ whole
     → inPlace (record { number = n; place = at; compared = compared; differing = differing }) chips ram answers ≡ settled from whole
-settled-at from ram₀ chips ram answers n compared differing at whole before after e =
+settled-at {chips = chips} before after e =
     rw (← e, before .left, before .right, two-back chips (after .records) (after .left) (after .right))
 
 module _ (chips ram trace answers : List ℕ) where

@@ -86,8 +86,8 @@ module _ {trace : List ℕ} {space : ℕ} {whole : Outcome} {chips ram answers :
       sym (no-more compared differing at (panelIn chips ram) answers) ∙ (rw e at (upto .ends))
 
   -- a record is left, read as a part of the trace, and given to its chip
-  module _ (more : at < length trace / 4) (bus : Record) (read : bus ≡ front (take (length trace - 4 * at) (drop (4 * at) trace)))
-      (a : BareAnswer) (chips′ ram′ : List ℕ) (step : acted a chips′ ram′ ≡ stepRecords bus chips ram) where
+  module _ (more : at < length trace / 4) {bus : Record} (read : bus ≡ front (take (length trace - 4 * at) (drop (4 * at) trace)))
+      {a : BareAnswer} {chips′ ram′ : List ℕ} (step : acted a chips′ ram′ ≡ stepRecords bus chips ram) where
     here : bus ≡ front (drop (4 * at) trace)
     here = read ∙ ap front (rest trace (4 * at))
 
@@ -116,11 +116,11 @@ module _ {trace : List ℕ} {space : ℕ} {whole : Outcome} {chips ram answers :
         rw (on-panel .number, on-panel .panel, refused-record (panelIn chips ram) bus (nonzero h))
         (sym (refused-turn compared differing at (panelIn chips ram) answers bus _ (nonzero h)) ∙ split)
 
-    pub accepted-here : a .number ≡ 0 → (one other : ℕ) → one ≡ if (isCompared (a .kind)) 1 0
+    pub accepted-here : a .number ≡ 0 → {one other : ℕ} → one ≡ if (isCompared (a .kind)) 1 0
         → other ≡ if (isCompared (a .kind) && not (eqb (a .byte) (bus .byte))) 1 0
         → Upto trace space whole chips′ ram′ (set (set answers (2 * at) (a .kind)) (2 * at + 1) (a .byte))
         (compared + one) (differing + other) (at + 1)
-    accepted-here h one other one-is other-is =
+    accepted-here h one-is other-is =
         record {
           size = upto .size;
           enough = upto .enough;

@@ -44,9 +44,10 @@ returns c =
     let step = stepped (c .before) in
     let state = head step .loop .inv in
     let given = step .step-of-tested-records .ensures in
-    settled-at _ (start (head step) .args .ram .now) _ _ _ _ _ _ _ _ (start (head step) .pre .0)
-    (fits-again state (omega arith) _ (read step .record-in .ensures) _ _ _ given)
-    (refused-here state (omega arith) _ (read step .record-in .ensures) _ _ _ given (c .if1 .taken))
+    settled-at
+    (start (head step) .pre .0)
+    (fits-again state (omega arith) (read step .record-in .ensures) given)
+    (refused-here state (omega arith) (read step .record-in .ensures) given (c .if1 .taken))
 
 slice-write-answers-2 : tie.Need-slice-write-answers-2 Inv-loop μ-loop
 slice-write-answers-2 c = simp length-set (omega arith)
@@ -65,14 +66,13 @@ add-differing c =
 loop-again : tie.Need-loop-again Inv-loop μ-loop
 loop-again c =
     let step = stepped (c .before .before .before) in
-    accepted-here (head step .loop .inv) (omega arith) _ (read step .record-in .ensures) _ _ _ (step .step-of-tested-records .ensures)
-    (omega arith) _ _ (c .before .compares .ensures) (c .differs .ensures)
+    accepted-here (head step .loop .inv) (omega arith) (read step .record-in .ensures) (step .step-of-tested-records .ensures)
+    (omega arith) (c .before .compares .ensures) (c .differs .ensures)
 
 returns-2 : tie.Need-returns-2 Inv-loop μ-loop
 returns-2 c =
-    let from = start (c .before) in
     let state = c .before .loop .inv in
-    settled-at _ (from .args .ram .now) _ _ _ _ _ _ _ _ (from .pre .0) (state .fits) (finished state (omega arith))
+    settled-at (start (c .before) .pre .0) (state .fits) (finished state (omega arith))
 
 pub run-spec : {M : Type 1} → statement M
 run-spec =
