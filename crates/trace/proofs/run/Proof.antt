@@ -1,4 +1,4 @@
--- `trace::run` meets its contract. The invariant: resumed with the counts and answers so far, the records that are left end as the whole does.
+-- `trace::run` meets its contract: before each record, the replay resumed there with what is left ends as the whole does.
 use Prim.Native.Nat.{_-_}
 use native.Mathlib.Omega.{arith}
 use mathlib.Core.Bool.{_&&_, not}
