@@ -1,6 +1,5 @@
 -- Which action a step over records takes, and what refuses it, as equations of `actionOn` and `stepRecords`.
 use Prim.Native.Nat.{ℕ, _+_, _-_, _*_}
-use native.Mathlib.Omega.{arith}
 use mathlib.Core.Path.{_≡_, sym, ap, _∙_}
 use mathlib.Core.Bool.{not, or-true}
 use mathlib.Core.List.{List, _++_}
@@ -66,10 +65,7 @@ module _ (r : Record) (chips ram : List ℕ) where
         (take (320 * r .chip) ram ++ (part ++ drop (320 * r .chip + 320 - 320 * r .chip) (drop (320 * r .chip) ram)))
         ≡ stepRecords r chips ram
     on-parts e a own part acts =
-        let asked = asks r e in
-        let first = part-lent 12 (r .chip) (12 * r .chip) chips records (λ z. omega arith) (λ h. omega arith) in
-        let second = part-lent 320 (r .chip) (320 * r .chip) ram image (λ z. omega arith) (λ h. omega arith) in
-        let acts′ = rw (first, second) at acts in
-        rw (part-back 12 (r .chip) (12 * r .chip) chips records (λ z. omega arith) (λ h. omega arith) own)
-        (rw (part-back 320 (r .chip) (320 * r .chip) ram image (λ z. omega arith) (λ h. omega arith) part)
-        (ap (putBack (r .chip) chips ram) acts′ ∙ sym (bus-right e)))
+        let k = asks r e .chip in
+        let on-own = rw (part-lent 12 (r .chip) chips records k, part-lent 320 (r .chip) ram image k) at acts in
+        rw (part-back 12 (r .chip) chips records k own, part-back 320 (r .chip) ram image k part)
+        (ap (putBack (r .chip) chips ram) on-own ∙ sym (bus-right e))

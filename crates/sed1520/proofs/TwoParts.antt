@@ -1,5 +1,6 @@
 -- Two parts of n bytes, one after the other: a part as a slice lends it, and put back as a slice takes it back.
-use Prim.Native.Nat.{ℕ, _+_, _-_}
+use Prim.Native.Nat.{ℕ, _+_, _-_, _*_, _<_}
+use native.Mathlib.Nat.{mul-zero, mul-one}
 use native.Mathlib.Omega.{arith}
 use mathlib.Core.Path.{_≡_, _∙_}
 use mathlib.Core.Bool.{Bool, true, false}
@@ -23,22 +24,28 @@ pub both-written : (n : ℕ) (l r blank first second : List ℕ) → length l �
 both-written n l r blank first second hl hb is-l is-r =
     rw (is-l, is-r, take-at l blank n hl, drop-at l blank n hl, past n blank hb, append-nil)
 
--- part k of two, which begins at s
-module _ (n k s : ℕ) (bytes : List ℕ) (two : length bytes ≡ n + n) (front : k ≡ 0 → s ≡ 0) (rear : (k ≡ 0 → ⊥) → s ≡ n) where
-  size : s + n - s ≡ n
+-- part k of two, from n * k on
+module _ (n k : ℕ) (bytes : List ℕ) (two : length bytes ≡ n + n) (either : k < 2) where
+  front : k ≡ 0 → n * k ≡ 0
+  front z = rw z (mul-zero n)
+
+  rear : (k ≡ 0 → ⊥) → n * k ≡ n
+  rear h = let one : k ≡ 1 = omega arith in rw one (mul-one n)
+
+  size : n * k + n - n * k ≡ n
   size = omega arith
 
   last : length (drop n bytes) ≡ n
   last = simp length-drop (omega arith)
 
-  pub part-lent : take (s + n - s) (drop s bytes) ≡ partAt n k bytes
+  pub part-lent : take (n * k + n - n * k) (drop (n * k) bytes) ≡ partAt n k bytes
   part-lent =
       ⊎-elim
       (λ l. rw (size, front (eqb-true k 0 l), l))
       (λ r. rw (size, rear (eqb-false k 0 r), r) (take-all n (drop n bytes) (omega (arith, last))))
       (tested (eqb k 0))
 
-  pub part-back : (part : List ℕ) → take s bytes ++ (part ++ drop (s + n - s) (drop s bytes)) ≡ partPut n k bytes part
+  pub part-back : (part : List ℕ) → take (n * k) bytes ++ (part ++ drop (n * k + n - n * k) (drop (n * k) bytes)) ≡ partPut n k bytes part
   part-back part =
       ⊎-elim
       (λ l. rw (size, front (eqb-true k 0 l), l))
