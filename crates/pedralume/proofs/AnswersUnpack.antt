@@ -10,7 +10,8 @@ use Rattle.repaint.proofs.RepaintCases as repaint
 use Rattle.pedralume.specs.Promises.{Unpacks, SmallRan, AnswersUnpack}
 
 unpacks : (n at compared differing : ℕ) → n < 256 → at < 65536 → compared < 65536 → Unpacks n at compared differing
-unpacks n at compared differing h l m = record { number-of = omega arith; place-of = omega arith; compared-of = omega arith; differing-of = omega arith }
+unpacks n at compared differing h l m =
+    record { number-of = omega arith; place-of = omega arith; compared-of = omega arith; differing-of = omega arith }
 
 small-ran : (chips ram trace answers : List ℕ) → SmallRan (replayInPlace chips ram trace answers .answer)
 small-ran chips ram trace answers =

@@ -22,8 +22,8 @@ pub record SmallRan (r : Ran) : Type 0 where
   pub compared : r .compared < 65536
   pub differing : r .differing < 65536
 
--- so it is where the number is a byte, as the code's is, and place and compared count below 65,536; which they are in all that the calls give back, and
--- so is differing
+-- so it is where the number is a byte, as the code's is, and place and compared count below 65,536; which they are in all that the calls
+-- give back, and so is differing
 pub record AnswersUnpack : Type 0 where
   pub parts : (n at compared differing : ℕ) → n < 256 → at < 65536 → compared < 65536 → Unpacks n at compared differing
   pub replay : (chips ram trace answers : List ℕ) → SmallRan (replayInPlace chips ram trace answers .answer)

@@ -68,7 +68,8 @@ module _ (b : ℕ) (c : Chip) where
 
 module _ (c : Chip) (ram : List ℕ) where
   module _ (room : c .column < 80) where
-    pub data-write-stored : (b : ℕ) → dataWrite b c ram ≡ outcome (answered 0 0 (withColumn (c .column + 1) c)) (set ram (ramIndex (c .page) (c .column)) b)
+    pub data-write-stored : (b : ℕ)
+        → dataWrite b c ram ≡ outcome (answered 0 0 (withColumn (c .column + 1) c)) (set ram (ramIndex (c .page) (c .column)) b)
     unfolding dataWrite
     data-write-stored b = rw (lt-ltb (c .column) 80 room)
 
@@ -77,7 +78,8 @@ module _ (c : Chip) (ram : List ℕ) where
     unfolding afterRead
     after-read-kept on = rw (lt-ltb (c .column) 80 room, on)
 
-    pub after-read-counted : c .modify ≡ false → afterRead c ram ≡ withLatch (Fresh (getD ram (ramIndex (c .page) (c .column)) 0)) (withColumn (c .column + 1) c)
+    pub after-read-counted : c .modify ≡ false
+        → afterRead c ram ≡ withLatch (Fresh (getD ram (ramIndex (c .page) (c .column)) 0)) (withColumn (c .column + 1) c)
     unfolding afterRead
     after-read-counted off = rw (lt-ltb (c .column) 80 room, off)
 

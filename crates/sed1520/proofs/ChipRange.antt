@@ -35,9 +35,11 @@ module _ (c : Chip) where
   saved-out h = simp (le-ltb (c .«saved_column») 128 h, and-false)
 
 -- with the four numbers in range, what is left is the saved column's rule
-pub in-range-rest : (c : Chip) → c .page < 4 → c .«start_line» < 32 → c .column < 128 → c .«saved_column» < 128 → inRange c ≡ (c .modify || eqb (c .«saved_column») 0)
+pub in-range-rest : (c : Chip) → c .page < 4 → c .«start_line» < 32 → c .column < 128 → c .«saved_column» < 128
+    → inRange c ≡ (c .modify || eqb (c .«saved_column») 0)
 unfolding inRange
-in-range-rest c p l k s = rw (lt-ltb (c .page) 4 p, lt-ltb (c .«start_line») 32 l, lt-ltb (c .column) 128 k, lt-ltb (c .«saved_column») 128 s)
+in-range-rest c p l k s =
+    rw (lt-ltb (c .page) 4 p, lt-ltb (c .«start_line») 32 l, lt-ltb (c .column) 128 k, lt-ltb (c .«saved_column») 128 s)
 
 pub in-range : (c : Chip) → Ranges c → inRange c ≡ true
 in-range c r = rw (in-range-rest c (r .page) (r .line) (r .column) (r .saved)) (r .idle)

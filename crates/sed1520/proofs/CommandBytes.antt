@@ -10,7 +10,7 @@ use mathlib.Core.Option.{none, some, Option·none-ne-some as none-ne-some, Optio
 use lib.Dec.{ltb, leb, eqb}
 use borrow.Author.Tests.{lt-ltb, le-ltb, le-leb, lt-leb, leb-true, ltb-true, eqb-true}
 use Rattle.sed1520.proofs.Tests.{tested, either, both}
-use Rattle.sed1520.specs.Command.{first, count, kinds, within, among, told}
+use Rattle.sed1520.specs.Command.{first, count, kinds, within, among}
 use Rattle.sed1520.specs.declared.commands.Kind.{Kind}
 use Rattle.sed1520.specs.declared.commands.Kind.the-variants.{Display, StartLine, Page, Column, Adc, Static, Duty, Modify, End, Reset}
 
@@ -42,33 +42,27 @@ abbrev reached : Kind → List Kind → Bool
 reached k [] = false
 reached k (j ∷ js) = eqb (first j) (first k) || (apart (first k) (first k + count k - 1) j && reached k js)
 
-reached-all : (k : Kind) → reached k kinds ≡ true
-reached-all Display = refl
-reached-all StartLine = refl
-reached-all Page = refl
-reached-all Column = refl
-reached-all Adc = refl
-reached-all Static = refl
-reached-all Duty = refl
-reached-all Modify = refl
-reached-all End = refl
-reached-all Reset = refl
+-- what is computed of each kind: the list reaches it, its first byte is told as it, and its last one fits a byte
+record Computed (k : Kind) : Type 0 where
+  listed : reached k kinds ≡ true
+  at-first : among kinds (first k) ≡ some k
+  below-256 : first k + count k ≤ 256
 
-at-first : (k : Kind) → among kinds (first k) ≡ some k
+computed : (k : Kind) → Computed k
 unfolding among
-at-first Display = refl
-at-first StartLine = refl
-at-first Page = refl
-at-first Column = refl
-at-first Adc = refl
-at-first Static = refl
-at-first Duty = refl
-at-first Modify = refl
-at-first End = refl
-at-first Reset = refl
+computed Display = record { listed = refl; at-first = refl; below-256 = omega arith }
+computed StartLine = record { listed = refl; at-first = refl; below-256 = omega arith }
+computed Page = record { listed = refl; at-first = refl; below-256 = omega arith }
+computed Column = record { listed = refl; at-first = refl; below-256 = omega arith }
+computed Adc = record { listed = refl; at-first = refl; below-256 = omega arith }
+computed Static = record { listed = refl; at-first = refl; below-256 = omega arith }
+computed Duty = record { listed = refl; at-first = refl; below-256 = omega arith }
+computed Modify = record { listed = refl; at-first = refl; below-256 = omega arith }
+computed End = record { listed = refl; at-first = refl; below-256 = omega arith }
+computed Reset = record { listed = refl; at-first = refl; below-256 = omega arith }
 
 first-injective : (j k : Kind) → first j ≡ first k → j ≡ k
-first-injective j k e = cc (at-first j, at-first k, ap (among kinds) e)
+first-injective j k e = cc (computed j .at-first, computed k .at-first, ap (among kinds) e)
 
 first-found : (k : Kind) (ks : List Kind) (b : ℕ) → first k ≤ b → b < first k + count k → (reached k ks) ≡ true → among ks b ≡ some k
 unfolding among
@@ -82,7 +76,7 @@ first-found k (j ∷ js) b l h t =
 
 -- a byte of a kind's range is told as that kind
 pub kind-in-range : (k : Kind) (b : ℕ) → first k ≤ b → b < first k + count k → among kinds b ≡ some k
-kind-in-range k b l h = first-found k kinds b l h (reached-all k)
+kind-in-range k b l h = first-found k kinds b l h (computed k .listed)
 
 -- and a byte is told as no other
 pub range-of-kind : (ks : List Kind) (k : Kind) (b : ℕ) → among ks b ≡ some k → (first k ≤ b) × (b < first k + count k)
@@ -98,13 +92,4 @@ range-of-kind (j ∷ js) k b e =
 
 -- every byte of a kind fits a byte
 pub range-below-256 : (k : Kind) → first k + count k ≤ 256
-range-below-256 Display = omega arith
-range-below-256 StartLine = omega arith
-range-below-256 Page = omega arith
-range-below-256 Column = omega arith
-range-below-256 Adc = omega arith
-range-below-256 Static = omega arith
-range-below-256 Duty = omega arith
-range-below-256 Modify = omega arith
-range-below-256 End = omega arith
-range-below-256 Reset = omega arith
+range-below-256 k = computed k .below-256

@@ -11,7 +11,8 @@ use borrow.Author.Tests.{ltb-true}
 use Rattle.sed1520.specs.Chip.{inRange, withColumn}
 use Rattle.sed1520.specs.Command.{count, decodeOf}
 use Rattle.sed1520.specs.Memory.{ramIndex}
-use Rattle.sed1520.specs.Cycle.{outcome, refusal, answered, execute, columnLocked, executed, commandWrite, dataWrite, afterRead, dataRead, readLine, writeLine, addressLine, actionOf, stepOf, cycleOf}
+use Rattle.sed1520.specs.Cycle.{outcome, refusal, answered, execute, columnLocked, executed, commandWrite, dataWrite, afterRead, dataRead}
+use Rattle.sed1520.specs.Cycle.{readLine, writeLine, addressLine, actionOf, stepOf, cycleOf}
 use Rattle.sed1520.specs.Promises.{Keeps, EveryCycleKeeps}
 use Rattle.sed1520.specs.declared.registers.Chip.{Chip}
 use Rattle.sed1520.specs.declared.commands.Kind.{Kind}
@@ -43,14 +44,16 @@ execute-ranges Reset a c h r = record { page = omega arith; line = omega arith; 
 
 -- a cycle that is done with a chip in range keeps what is asked; so does one that is refused
 module _ (c : Chip) (ram : List ℕ) where
-  done-keeps : (k b : ℕ) (next : Chip) (after : List ℕ) → (Ranges c → Ranges next) → length after ≡ length ram → Keeps c ram (outcome (answered k b next) after)
+  done-keeps : (k b : ℕ) (next : Chip) (after : List ℕ) → (Ranges c → Ranges next) → length after ≡ length ram
+      → Keeps c ram (outcome (answered k b next) after)
   done-keeps k b next after r l =
       record { place = refl; same-size = l; range = λ e. in-range next (r (ranges c e)); refused = λ h. absurd (h refl) }
 
   refusal-keeps : (n : ℕ) → Keeps c ram (outcome (refusal n c) ram)
   refusal-keeps n = record { place = refl; same-size = refl; range = λ e. e; refused = λ h. refl }
 
-  executed-keeps : (b : ℕ) (o : Option Command) → ((m : Command) → o ≡ some m → m .argument < count (m .kind)) → Keeps c ram (outcome (executed b o c) ram)
+  executed-keeps : (b : ℕ) (o : Option Command) → ((m : Command) → o ≡ some m → m .argument < count (m .kind))
+      → Keeps c ram (outcome (executed b o c) ram)
   executed-keeps b none h = refusal-keeps 7
   executed-keeps b (some m) h =
       when (λ a. Keeps c ram (outcome a ram)) (columnLocked b c)
@@ -65,7 +68,8 @@ module _ (c : Chip) (ram : List ℕ) where
   after-read-ranges r =
       when Ranges (ltb (c .column) 80)
       (λ below. let h = ltb-true (c .column) 80 below in
-      record { page = r .page; line = r .line; column = when (λ n. n < 128) (c .modify) (λ _. r .column) (λ _. omega arith); saved = r .saved; idle = r .idle })
+      let counted = when (λ n. n < 128) (c .modify) (λ _. r .column) (λ _. omega arith) in
+      record { page = r .page; line = r .line; column = counted; saved = r .saved; idle = r .idle })
       (λ _. record { page = r .page; line = r .line; column = r .column; saved = r .saved; idle = r .idle })
 
   action-keeps : (lines b : ℕ) → Keeps c ram (actionOf lines b c ram)
@@ -76,7 +80,8 @@ module _ (c : Chip) (ram : List ℕ) where
       (λ _. when (Keeps c ram) (eqb (addressLine lines) 0)
       (λ _. executed-keeps b (decodeOf b .value) (λ m e. told-place b m e .0))
       (λ _. when (Keeps c ram) (ltb (c .column) 80)
-      (λ below. done-keeps 0 0 (withColumn (c .column + 1) c) _ (counted-ranges (ltb-true (c .column) 80 below)) (length-set ram (ramIndex (c .page) (c .column)) b))
+      (λ below. let same-length = length-set ram (ramIndex (c .page) (c .column)) b in
+      done-keeps 0 0 (withColumn (c .column + 1) c) _ (counted-ranges (ltb-true (c .column) 80 below)) same-length)
       (λ _. done-keeps 0 0 c ram (λ r. r) refl)))
       (λ _. when (Keeps c ram) (eqb (addressLine lines) 0)
       (λ _. done-keeps 3 _ c ram (λ r. r) refl)

@@ -33,7 +33,9 @@ module _ (b : List ℕ) where
   unfolding marksRight
   mark-wrong-9 h = simp (le-ltb (getD b 9 0) 2 h, and-false)
 
-  pub marks-but-last : getD b 0 0 < 2 → getD b 1 0 < 2 → getD b 2 0 < 2 → getD b 3 0 < 2 → getD b 4 0 < 2 → getD b 9 0 < 2 → marksRight b ≡ eqb (getD b 11 0) 0
+  pub marks-but-last : getD b 0 0 < 2 → getD b 1 0 < 2 → getD b 2 0 < 2 → getD b 3 0 < 2 → getD b 4 0 < 2 → getD b 9 0 < 2
+      → marksRight b ≡ eqb (getD b 11 0) 0
   unfolding marksRight
   marks-but-last h0 h1 h2 h3 h4 h9 =
-      rw (lt-ltb (getD b 0 0) 2 h0, lt-ltb (getD b 1 0) 2 h1, lt-ltb (getD b 2 0) 2 h2, lt-ltb (getD b 3 0) 2 h3, lt-ltb (getD b 4 0) 2 h4, lt-ltb (getD b 9 0) 2 h9)
+      rw (lt-ltb (getD b 0 0) 2 h0, lt-ltb (getD b 1 0) 2 h1, lt-ltb (getD b 2 0) 2 h2)
+      (rw (lt-ltb (getD b 3 0) 2 h3, lt-ltb (getD b 4 0) 2 h4, lt-ltb (getD b 9 0) 2 h9))

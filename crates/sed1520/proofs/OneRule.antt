@@ -35,19 +35,23 @@ there m b e =
     (λ no. absurd (none-ne-some b (rw no at v)))
     (tested (ltb (m .argument) (count (m .kind))))
 
--- a told byte lies in the range of its command's kind, and its argument says where
-decoded-place : (o : Option Kind) (b : ℕ) (m : Command) → among kinds b ≡ o → commandOf b o .value ≡ some m → (m .argument < count (m .kind)) × (first (m .kind) + m .argument ≡ b)
+-- a command's argument is in range, and says where its byte lies in the range of its kind
+abbrev Placed : Command → ℕ → Type 0
+Placed m b = (m .argument < count (m .kind)) × (first (m .kind) + m .argument ≡ b)
+
+-- so it is with the command that a byte is told as
+decoded-place : (o : Option Kind) (b : ℕ) (m : Command) → among kinds b ≡ o → commandOf b o .value ≡ some m → Placed m b
 decoded-place none b m e v = absurd (none-ne-some m v)
 decoded-place (some k) b m e v =
     let p = range-of-kind kinds k b e in
     let s = some-injective (record { kind = k; argument = b - first k }) m v in
     rw (← s) (omega arith, omega arith)
 
-pub told-place : (b : ℕ) (m : Command) → decodeOf b .value ≡ some m → (m .argument < count (m .kind)) × (first (m .kind) + m .argument ≡ b)
+pub told-place : (b : ℕ) (m : Command) → decodeOf b .value ≡ some m → Placed m b
 unfolding decodeOf
 told-place b m v = decoded-place (among kinds b) b m refl v
 
-place-of : (b : ℕ) (m : Command) → decodeOf b ≡ told m → (m .argument < count (m .kind)) × (first (m .kind) + m .argument ≡ b)
+place-of : (b : ℕ) (m : Command) → decodeOf b ≡ told m → Placed m b
 place-of b m e = told-place b m (ap (λ (t : Told Command). t .value) e)
 
 exactly-175 : countBelow isCommand 256 ≡ 175

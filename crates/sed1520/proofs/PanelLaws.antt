@@ -1,5 +1,5 @@
 -- Two chips on one bus: a record changes its own chip and that chip's 320 bytes, and leaves the other chip and its bytes alone.
-use Prim.Native.Nat.{ℕ, _+_, _-_}
+use Prim.Native.Nat.{ℕ}
 use native.Mathlib.Omega.{arith}
 use mathlib.Core.Path.{_≡_, refl, _∙_}
 use mathlib.Core.Bool.{Bool, true, false}
@@ -90,18 +90,22 @@ refused-record p r h =
     put-back true = rw (take-append-drop 320 (p .ram))
     put-back false = rw (take-append-drop 320 (p .ram))
 
--- chips in range stay in range
-pub chips-in-range : (p : Panel) (r : Record) → inRange (p .left) ≡ true → inRange (p .right) ≡ true → (inRange (stepped p r .left) ≡ true) × (inRange (stepped p r .right) ≡ true)
-unfolding stepped outcomeOf
-chips-in-range p r left right =
-    let own = cycle-keeps (chipAt p (r .chip)) (ramAt p (r .chip)) r .range (when (λ (c : Chip). inRange c ≡ true) (eqb (r .chip) 0) (λ _. left) (λ _. right)) in
-    (when (λ (q : Panel). inRange (q .left) ≡ true) (eqb (r .chip) 0) (λ _. own) (λ _. left), when (λ (q : Panel). inRange (q .right) ≡ true) (eqb (r .chip) 0) (λ _. right) (λ _. own))
-
 pub every-record-apart : EveryRecordApart
 every-record-apart = apart
 
 pub every-half-whole : EveryHalfWhole
 every-half-whole = half-length
+
+-- chips in range stay in range
+chips-in-range : (p : Panel) (r : Record) → inRange (p .left) ≡ true → inRange (p .right) ≡ true
+    → (inRange (stepped p r .left) ≡ true) × (inRange (stepped p r .right) ≡ true)
+unfolding stepped outcomeOf
+chips-in-range p r left right =
+    let within = when (λ (c : Chip). inRange c ≡ true) (eqb (r .chip) 0) (λ _. left) (λ _. right) in
+    let own = cycle-keeps (chipAt p (r .chip)) (ramAt p (r .chip)) r .range within in (
+      when (λ (q : Panel). inRange (q .left) ≡ true) (eqb (r .chip) 0) (λ _. own) (λ _. left),
+      when (λ (q : Panel). inRange (q .right) ≡ true) (eqb (r .chip) 0) (λ _. right) (λ _. own),
+    )
 
 -- so they do after any records, and the image keeps its length
 pub record Whole (p : Panel) : Type 0 where

@@ -8,7 +8,8 @@ use lib.ListN.{length, take, drop}
 use borrow.Author.Tests.{eq-eqb, ne-eqb}
 use Rattle.sed1520.specs.ChipRecord.{registersIn}
 use Rattle.sed1520.specs.Cycle.{commandWrite, dataWrite, dataRead, statusRead}
-use Rattle.sed1520.specs.RecordStep.{bare, bareRefusal, acted, readBytes, commandBytes, written, actionOn, busRefusal, startOf, partAt, putBack, stepRecords}
+use Rattle.sed1520.specs.RecordStep.{bare, bareRefusal, acted, readBytes, commandBytes, written, actionOn}
+use Rattle.sed1520.specs.RecordStep.{busRefusal, startOf, partAt, putBack, stepRecords}
 use Rattle.sed1520.specs.declared.bus.Record.{Record}
 use Rattle.sed1520.specs.declared.record_step.BareAnswer.{BareAnswer}
 use Rattle.sed1520.proofs.TwoParts.{part-lent, part-back}
@@ -57,11 +58,13 @@ module _ (r : Record) (chips ram : List ℕ) where
         → (a : BareAnswer) (own part : List ℕ)
         → acted a own part
         ≡ actionOn (r .lines) (r .byte) (take (from + 12 - from) (drop from chips)) (take (start + 320 - start) (drop start ram))
-        → acted a (take from chips ++ (own ++ drop (from + 12 - from) (drop from chips))) (take start ram ++ (part ++ drop (start + 320 - start) (drop start ram)))
+        → acted a
+        (take from chips ++ (own ++ drop (from + 12 - from) (drop from chips)))
+        (take start ram ++ (part ++ drop (start + 320 - start) (drop start ram)))
         ≡ stepRecords r chips ram
     on-parts e from start is-from is-start a own part acts =
         let first = part-lent 12 (r .chip) from chips records is-from in
         let second = part-lent 320 (r .chip) start ram image is-start in
-        let acts′ = rw (first, second) at acts in
+        let on-own = rw (first, second) at acts in
         rw (part-back 12 (r .chip) from chips records is-from own, part-back 320 (r .chip) start ram image is-start part)
-        (ap (putBack (r .chip) chips ram) acts′ ∙ sym (bus-right e))
+        (ap (putBack (r .chip) chips ram) on-own ∙ sym (bus-right e))

@@ -8,24 +8,25 @@ use mathlib.Core.Logic.{⊎-elim}
 use mathlib.Core.Option.{Option, none, some}
 use lib.Dec.{ltb, eqb}
 use lib.ListN.{length, take, drop}
-use borrow.Author.Tests.{eq-eqb, eqb-true, eqb-false}
+use borrow.Author.Tests.{eqb-true, eqb-false}
 use Rattle.sed1520.specs.Choice.{if}
 use Rattle.sed1520.specs.Chip.{inRange}
 use Rattle.sed1520.specs.ChipRecord.{chipBytes, registersIn, marksRight, recordRight, chipIn, panelIn}
 use Rattle.sed1520.specs.Command.{decodeOf}
 use Rattle.sed1520.specs.Cycle.{Outcome, columnLocked, executed, commandWrite, dataWrite, afterRead, dataRead, actionOf, stepOf}
-use Rattle.sed1520.specs.Panel.{Panel, panelOf, chipAt, ramAt, put, outcomeOf, stepped}
-use Rattle.sed1520.specs.Promises.{RecordsFit, StepsPanel, EveryRecordStep}
-use Rattle.sed1520.specs.RecordStep.{bare, Acted, acted, writeBytes, readBytes, commandBytes, actionOn, busRefusal, partAt, partPut, putBack, stepRecords}
+use Rattle.sed1520.specs.Panel.{panelOf, chipAt, put, outcomeOf, stepped}
+use Rattle.sed1520.specs.Promises.{RecordsFit, EveryRecordStep}
+use Rattle.sed1520.specs.RecordStep.{bare, Acted, acted, writeBytes, readBytes, commandBytes, actionOn}
+use Rattle.sed1520.specs.RecordStep.{busRefusal, partAt, partPut, putBack, stepRecords}
 use Rattle.sed1520.specs.declared.actions.Answer.{Answer}
 use Rattle.sed1520.specs.declared.registers.Chip.{Chip}
 use Rattle.sed1520.specs.declared.commands.Command.{Command}
 use Rattle.sed1520.specs.declared.bus.Record.{Record}
-use Rattle.sed1520.specs.declared.record_step.BareAnswer.{BareAnswer}
 use Rattle.sed1520.proofs.CycleKeeps.{cycle-keeps}
 use Rattle.sed1520.proofs.RecordStepCases.{on-write, on-status, on-read, on-command, bus-wrong, bus-right}
 use Rattle.sed1520.proofs.RecordsUndo.{record-length, read-back, marked-in, written-back, there, whole, two-chips}
-use Rattle.sed1520.proofs.StepCases.{asks, action-command, action-data-write, action-status, action-data-read, step-action, step-refused, cycle-step}
+use Rattle.sed1520.proofs.StepCases.{action-command, action-data-write, action-status, action-data-read}
+use Rattle.sed1520.proofs.StepCases.{asks, step-action, step-refused, cycle-step}
 use Rattle.sed1520.proofs.Tests.{tested, both, when}
 use Rattle.sed1520.proofs.TwoParts.{part-length, same-back, put-front, put-rear, put-length}
 
@@ -75,42 +76,51 @@ module _ (c : Chip) (ram : List ℕ) where
       (tested (eqb lines 3))
 
 module _ (r : Record) (chips ram : List ℕ) (fit : RecordsFit chips ram) where
-  own-record : recordRight (partAt 12 (r .chip) chips) ≡ true
+  -- the record of the chip that the bus record names, its registers, and its part of the image
+  abbrev own : List ℕ
+  own = partAt 12 (r .chip) chips
+
+  abbrev ownChip : Chip
+  ownChip = registersIn own
+
+  abbrev ownRam : List ℕ
+  ownRam = partAt 320 (r .chip) ram
+
+  ram-length : length ownRam ≡ 320
+  ram-length = part-length 320 (r .chip) ram (fit .image)
+
+  own-record : recordRight own ≡ true
   own-record = when (λ (b : List ℕ). recordRight b ≡ true) (eqb (r .chip) 0) (λ _. fit .left) (λ _. fit .right)
 
-  own-marks : (marksRight (partAt 12 (r .chip) chips) ≡ true) × (inRange (registersIn (partAt 12 (r .chip) chips)) ≡ true)
-  own-marks = both (marksRight (partAt 12 (r .chip) chips)) _ own-record
+  own-marks : (marksRight own ≡ true) × (inRange ownChip ≡ true)
+  own-marks = both (marksRight own) _ own-record
 
-  own-bytes : chipBytes (registersIn (partAt 12 (r .chip) chips)) ≡ partAt 12 (r .chip) chips
-  own-bytes = written-back (partAt 12 (r .chip) chips) (part-length 12 (r .chip) chips (fit .records)) (own-marks .0)
+  own-bytes : chipBytes ownChip ≡ own
+  own-bytes = written-back own (part-length 12 (r .chip) chips (fit .records)) (own-marks .0)
 
-  own-chip : chipAt (panelIn chips ram) (r .chip) ≡ registersIn (partAt 12 (r .chip) chips)
-  own-chip = rw (two-chips chips (fit .records)) (side (eqb (r .chip) 0) ∙ marked-in (partAt 12 (r .chip) chips) (own-marks .0))
+  own-chip : chipAt (panelIn chips ram) (r .chip) ≡ ownChip
+  own-chip = rw (two-chips chips (fit .records)) (side (eqb (r .chip) 0) ∙ marked-in own (own-marks .0))
     where
       side : (t : Bool) → if t (chipIn (take 12 chips)) (chipIn (drop 12 chips)) ≡ chipIn (if t (take 12 chips) (drop 12 chips))
       side true = refl
       side false = refl
 
   -- the step of the named chip's registers is the panel's outcome
-  own-outcome : stepOf r (registersIn (partAt 12 (r .chip) chips)) (partAt 320 (r .chip) ram) ≡ outcomeOf (panelIn chips ram) r
+  own-outcome : stepOf r ownChip ownRam ≡ outcomeOf (panelIn chips ram) r
   unfolding outcomeOf
-  own-outcome =
-      rw own-chip
-      (sym (cycle-step r (registersIn (partAt 12 (r .chip) chips)) (partAt 320 (r .chip) ram) (part-length 320 (r .chip) ram (fit .image)) (own-marks .1)))
+  own-outcome = rw own-chip (sym (cycle-step r ownChip ownRam ram-length (own-marks .1)))
 
-  on-registers : stepRecords r chips ram
-      ≡ putBack (r .chip) chips ram (asRecord (stepOf r (registersIn (partAt 12 (r .chip) chips)) (partAt 320 (r .chip) ram)))
+  on-registers : stepRecords r chips ram ≡ putBack (r .chip) chips ram (asRecord (stepOf r ownChip ownRam))
   on-registers =
-      let c = registersIn (partAt 12 (r .chip) chips) in
-      let part = partAt 320 (r .chip) ram in
       ⊎-elim
       (λ t. let e = eqb-true (busRefusal r) 0 t in
       let asked = asks r e in
-      let acts = ap (λ (b : List ℕ). actionOn (r .lines) (r .byte) b part) (sym own-bytes) ∙ action-as c part (r .lines) (r .byte) (asked .from) (asked .to) in
-      bus-right r chips ram (fit .records) (fit .image) e ∙ rw (step-action r c part e, acts))
+      let acts = rw own-bytes at (action-as ownChip ownRam (r .lines) (r .byte) (asked .from) (asked .to)) in
+      bus-right r chips ram (fit .records) (fit .image) e ∙ rw (step-action r ownChip ownRam e, acts))
       (λ f. let h = eqb-false (busRefusal r) 0 f in
       bus-wrong r chips ram (fit .records) (fit .image) h
-      ∙ rw (step-refused r c part h, own-bytes, same-back 12 (r .chip) chips (fit .records), same-back 320 (r .chip) ram (fit .image)))
+      ∙ rw (step-refused r ownChip ownRam h, own-bytes)
+      (rw (same-back 12 (r .chip) chips (fit .records), same-back 320 (r .chip) ram (fit .image))))
       (tested (eqb (busRefusal r) 0))
 
   on-panel : stepRecords r chips ram ≡ putBack (r .chip) chips ram (asRecord (outcomeOf (panelIn chips ram) r))
@@ -119,12 +129,11 @@ module _ (r : Record) (chips ram : List ℕ) (fit : RecordsFit chips ram) where
   -- the chip and its RAM after it fit again
   next-range : inRange (outcomeOf (panelIn chips ram) r .answer .chip) ≡ true
   unfolding outcomeOf
-  next-range = cycle-keeps (chipAt (panelIn chips ram) (r .chip)) (partAt 320 (r .chip) ram) r .range (rw own-chip (own-marks .1))
+  next-range = cycle-keeps (chipAt (panelIn chips ram) (r .chip)) ownRam r .range (rw own-chip (own-marks .1))
 
   next-ram : length (outcomeOf (panelIn chips ram) r .ram) ≡ 320
   unfolding outcomeOf
-  next-ram =
-      cycle-keeps (chipAt (panelIn chips ram) (r .chip)) (partAt 320 (r .chip) ram) r .same-size ∙ part-length 320 (r .chip) ram (fit .image)
+  next-ram = cycle-keeps (chipAt (panelIn chips ram) (r .chip)) ownRam r .same-size ∙ ram-length
 
 -- a chip's record put in place is that chip put in place, and records that passed pass again
 module _ (chips ram : List ℕ) (k : ℕ) (next : Chip) (bytes : List ℕ) (fit : RecordsFit chips ram) where
@@ -142,7 +151,10 @@ module _ (chips ram : List ℕ) (k : ℕ) (next : Chip) (bytes : List ℕ) (fit 
       rw (two-chips (partPut 12 k chips (chipBytes next)) put-chips, two-chips chips (fit .records)) (rw (front, rear) (side (eqb k 0)))
     where
       side : (t : Bool)
-          → panelOf (chipIn (if t (chipBytes next) (take 12 chips))) (chipIn (if t (drop 12 chips) (chipBytes next))) (if t (bytes ++ drop 320 ram) (take 320 ram ++ bytes))
+          → panelOf
+          (chipIn (if t (chipBytes next) (take 12 chips)))
+          (chipIn (if t (drop 12 chips) (chipBytes next)))
+          (if t (bytes ++ drop 320 ram) (take 320 ram ++ bytes))
           ≡ if t (panelOf next (chipIn (drop 12 chips)) (bytes ++ drop 320 ram)) (panelOf (chipIn (take 12 chips)) next (take 320 ram ++ bytes))
       side true = rw (there next)
       side false = rw (there next)
@@ -162,9 +174,9 @@ every-record-step r chips ram fit =
     let o = outcomeOf (panelIn chips ram) r in
     let same = on-panel r chips ram fit in
     record {
-      number = ap (λ (a : Acted). a .answer .number) same;
-      kind = ap (λ (a : Acted). a .answer .kind) same;
-      byte = ap (λ (a : Acted). a .answer .byte) same;
-      panel = ap (λ (a : Acted). panelIn (a .chips) (a .ram)) same ∙ put-record chips ram (r .chip) (o .answer .chip) (o .ram) fit;
+      number = rw same;
+      kind = rw same;
+      byte = rw same;
+      panel = rw same (put-record chips ram (r .chip) (o .answer .chip) (o .ram) fit);
       fit = rw same (put-fit chips ram (r .chip) (o .answer .chip) (o .ram) fit (next-range r chips ram fit) (next-ram r chips ram fit));
     }

@@ -1,5 +1,5 @@
 -- A chip and its record: each way undoes the other.
-use Prim.Native.Nat.{ℕ, zero, suc, _+_, _<_}
+use Prim.Native.Nat.{ℕ, zero, suc, _+_}
 use native.Mathlib.Omega.{arith}
 use mathlib.Core.Path.{_≡_, refl, sym, ap, _∙_}
 use mathlib.Core.Bool.{Bool, true, false, _&&_}
@@ -14,7 +14,8 @@ use Rattle.sed1520.specs.declared.chip_record.Chips.{Chips}
 use Rattle.sed1520.specs.declared.registers.ReadLatch.{ReadLatch}
 use Rattle.sed1520.specs.declared.registers.ReadLatch.the-variants.{Fresh, Stale}
 use Rattle.sed1520.proofs.Tests.{both, when}
-use Rattle.sed1520.specs.ChipRecord.{bit, flag, mark, latchOf, chipBytes, registersIn, marksRight, recordRight, chipIn, chipsBytes, chipsOf, chipsIn}
+use Rattle.sed1520.specs.ChipRecord.{bit, flag, mark, latchOf, chipBytes, registersIn, marksRight, recordRight}
+use Rattle.sed1520.specs.ChipRecord.{chipIn, chipsBytes, chipsOf, chipsIn}
 use Rattle.sed1520.specs.Promises.{RecordsUndo}
 
 pub record-length : (c : Chip) → length (chipBytes c) ≡ 12
@@ -35,21 +36,24 @@ read-back c =
     rw (flag-bit (c .«display_on»), flag-bit (c .«static_on»), flag-bit (c .«duty_32»), flag-bit (c .reverse), flag-bit (c .modify))
     (rw (latch-mark (c .latch)))
 
--- a byte that is 0 or 1
-bit-flag : (n : ℕ) → n < 2 → bit (flag n) ≡ n
-bit-flag zero h = refl
-bit-flag (suc zero) h = refl
-bit-flag (suc (suc n)) h = absurd (omega arith)
+-- a byte that passes the test of a flag or a mark
+none-above : (n : ℕ) → ltb (suc (suc n)) 2 ≡ true → ⊥
+none-above n t = let below = ltb-true (suc (suc n)) 2 t in omega arith
 
-mark-latch : (m b : ℕ) → m < 2 → mark (latchOf m b) ≡ m
-mark-latch zero b h = refl
-mark-latch (suc zero) b h = refl
-mark-latch (suc (suc m)) b h = absurd (omega arith)
+bit-flag : (n : ℕ) → ltb n 2 ≡ true → bit (flag n) ≡ n
+bit-flag zero t = refl
+bit-flag (suc zero) t = refl
+bit-flag (suc (suc n)) t = absurd (none-above n t)
 
-latched-latch : (m b : ℕ) → m < 2 → latched (latchOf m b) ≡ b
-latched-latch zero b h = refl
-latched-latch (suc zero) b h = refl
-latched-latch (suc (suc m)) b h = absurd (omega arith)
+mark-latch : (m b : ℕ) → ltb m 2 ≡ true → mark (latchOf m b) ≡ m
+mark-latch zero b t = refl
+mark-latch (suc zero) b t = refl
+mark-latch (suc (suc m)) b t = absurd (none-above m t)
+
+latched-latch : (m b : ℕ) → ltb m 2 ≡ true → latched (latchOf m b) ≡ b
+latched-latch zero b t = refl
+latched-latch (suc zero) b t = refl
+latched-latch (suc (suc m)) b t = absurd (none-above m t)
 
 -- a list spelled out by its elements
 spelled : ℕ → ℕ → List ℕ → List ℕ
@@ -59,7 +63,7 @@ spelled i (suc n) l = getD l i 0 ∷ spelled (suc i) n l
 spelled-out : (i n : ℕ) (l : List ℕ) → length l ≡ i + n → drop i l ≡ spelled i n l
 unfolding spelled
 spelled-out i zero l h = drop-of-length-le l {i = i} (omega arith)
-spelled-out i (suc n) l h = drop-cons l i 0 (omega arith) ∙ ap (λ (more : List ℕ). getD l i 0 ∷ more) (spelled-out (suc i) n l (omega arith))
+spelled-out i (suc n) l h = drop-cons l i 0 (omega arith) ∙ rw (spelled-out (suc i) n l (omega arith))
 
 pub written-back : (b : List ℕ) → length b ≡ 12 → marksRight b ≡ true → chipBytes (registersIn b) ≡ b
 unfolding chipBytes registersIn marksRight spelled
@@ -70,12 +74,10 @@ written-back b h m =
     let m3 = both (ltb (getD b 3 0) 2) _ (m2 .1) in
     let m4 = both (ltb (getD b 4 0) 2) _ (m3 .1) in
     let m9 = both (ltb (getD b 9 0) 2) _ (m4 .1) in
-    let l9 = ltb-true (getD b 9 0) 2 (m9 .0) in
-    rw (bit-flag (getD b 0 0) (ltb-true (getD b 0 0) 2 (m0 .0)), bit-flag (getD b 1 0) (ltb-true (getD b 1 0) 2 (m1 .0)))
-    (rw (bit-flag (getD b 2 0) (ltb-true (getD b 2 0) 2 (m2 .0)), bit-flag (getD b 3 0) (ltb-true (getD b 3 0) 2 (m3 .0)))
-    (rw (bit-flag (getD b 4 0) (ltb-true (getD b 4 0) 2 (m4 .0)), mark-latch (getD b 9 0) (getD b 10 0) l9)
-    (rw (latched-latch (getD b 9 0) (getD b 10 0) l9)
-    (rw (eqb-true (getD b 11 0) 0 (m9 .1)) at (sym (spelled-out 0 12 b h))))))
+    let bytes = rw (eqb-true (getD b 11 0) 0 (m9 .1)) at (sym (spelled-out 0 12 b h)) in
+    rw (bit-flag (getD b 0 0) (m0 .0), bit-flag (getD b 1 0) (m1 .0), bit-flag (getD b 2 0) (m2 .0))
+    (rw (bit-flag (getD b 3 0) (m3 .0), bit-flag (getD b 4 0) (m4 .0))
+    (rw (mark-latch (getD b 9 0) (getD b 10 0) (m9 .0), latched-latch (getD b 9 0) (getD b 10 0) (m9 .0)) bytes))
 
 small : (b : Bool) → ltb (bit b) 2 ≡ true
 small true = refl
@@ -87,7 +89,8 @@ small-mark (Stale b) = refl
 
 marked : (c : Chip) → marksRight (chipBytes c) ≡ true
 unfolding marksRight chipBytes
-marked c = rw (small (c .«display_on»), small (c .«static_on»), small (c .«duty_32»), small (c .reverse), small (c .modify), small-mark (c .latch))
+marked c =
+    rw (small (c .«display_on»), small (c .«static_on»), small (c .«duty_32»), small (c .reverse), small (c .modify), small-mark (c .latch))
 
 -- a record whose marks are right is read by its registers; any other as a chip that number 2 does not let pass
 pub marked-in : (b : List ℕ) → marksRight b ≡ true → chipIn b ≡ registersIn b
@@ -123,11 +126,16 @@ module _ (chips : List ℕ) (records : length chips ≡ 24) (t : Bool) where
 pub two-length : (left right : Chip) → length (chipsBytes left right) ≡ 24
 two-length left right = length-append (chipBytes left) (chipBytes right) ∙ omega (arith, record-length left, record-length right)
 
+two-front : (left right : Chip) → take 12 (chipsBytes left right) ≡ chipBytes left
+two-front left right = take-at (chipBytes left) (chipBytes right) 12 (record-length left)
+
+two-rear : (left right : Chip) → drop 12 (chipsBytes left right) ≡ chipBytes right
+two-rear left right = drop-at (chipBytes left) (chipBytes right) 12 (record-length left)
+
 pub two-there : (left right : Chip) → chipsIn (chipsBytes left right) ≡ chipsOf left right
 two-there left right =
     two-chips (chipsBytes left right) (two-length left right)
-    ∙ rw (take-at (chipBytes left) (chipBytes right) 12 (record-length left), drop-at (chipBytes left) (chipBytes right) 12 (record-length left))
-    (rw (there left, there right))
+    ∙ rw (two-front left right, two-rear left right) (rw (there left, there right))
 
 pub two-back : (chips : List ℕ) → length chips ≡ 24 → recordRight (take 12 chips) ≡ true → recordRight (drop 12 chips) ≡ true
     → chipsBytes (chipsIn chips .left) (chipsIn chips .right) ≡ chips
@@ -135,11 +143,11 @@ two-back chips h l r =
     rw (two-chips chips h, back (take 12 chips) (length-take-le 12 chips (omega arith)) (both (marksRight (take 12 chips)) _ l .0))
     (rw (back (drop 12 chips) (simp length-drop (omega arith)) (both (marksRight (drop 12 chips)) _ r .0)) (take-append-drop 12 chips))
 
-pub two-pass : (left right : Chip) → (recordRight (take 12 (chipsBytes left right)) && recordRight (drop 12 (chipsBytes left right))) ≡ (inRange left && inRange right)
-two-pass left right =
-    rw (take-at (chipBytes left) (chipBytes right) 12 (record-length left), drop-at (chipBytes left) (chipBytes right) 12 (record-length left))
-    (rw (whole left, whole right))
+pub two-pass : (left right : Chip)
+    → (recordRight (take 12 (chipsBytes left right)) && recordRight (drop 12 (chipsBytes left right))) ≡ (inRange left && inRange right)
+two-pass left right = rw (two-front left right, two-rear left right) (rw (whole left, whole right))
 
 pub records-undo : RecordsUndo
 unfolding chipBytes fresh
-records-undo = record { there = there; back = back; passes = passes; whole = whole; two-there = two-there; two-back = two-back; fresh-record = refl }
+records-undo =
+    record { there = there; back = back; passes = passes; whole = whole; two-there = two-there; two-back = two-back; fresh-record = refl }

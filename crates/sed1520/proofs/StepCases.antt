@@ -12,7 +12,8 @@ use Rattle.sed1520.specs.Choice.{if}
 use Rattle.sed1520.specs.RecordStep.{busRefusal}
 use Rattle.sed1520.proofs.Tests.{tested, neither}
 use Rattle.sed1520.specs.Chip.{inRange}
-use Rattle.sed1520.specs.Cycle.{Outcome, outcome, refusal, readLine, writeLine, actionOf, commandWrite, dataWrite, dataRead, statusRead, stepOf, cycleOf}
+use Rattle.sed1520.specs.Cycle.{Outcome, outcome, refusal, commandWrite, dataWrite, dataRead, statusRead}
+use Rattle.sed1520.specs.Cycle.{readLine, writeLine, actionOf, stepOf, cycleOf}
 use Rattle.sed1520.specs.declared.registers.Chip.{Chip}
 use Rattle.sed1520.specs.declared.bus.Record.{Record}
 use Rattle.sed1520.specs.Promises.{EveryCycleSteps}

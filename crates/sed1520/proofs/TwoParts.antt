@@ -1,7 +1,7 @@
 -- Two parts of n bytes, one after the other: a part as a slice lends it, and put back as a slice takes it back.
 use Prim.Native.Nat.{ℕ, _+_, _-_, _≤_}
 use native.Mathlib.Omega.{arith}
-use mathlib.Core.Path.{_≡_, refl, ap, _∙_}
+use mathlib.Core.Path.{_≡_, _∙_}
 use mathlib.Core.Bool.{Bool, true, false}
 use mathlib.Core.List.{List, [], _++_, append-nil}
 use mathlib.Core.Logic.{⊎-elim}
@@ -47,7 +47,7 @@ module _ (n k s : ℕ) (bytes : List ℕ) (two : length bytes ≡ n + n) (start 
   part-back part =
       ⊎-elim
       (λ l. rw (size, at-front l, l))
-      (λ r. rw (size, at-rear r, r) (ap (λ (rest : List ℕ). take n bytes ++ (part ++ rest)) (past n (drop n bytes) last) ∙ rw append-nil))
+      (λ r. rw (size, at-rear r, r) (rw (past n (drop n bytes) last, append-nil)))
       (tested (eqb k 0))
 
 pub start-within : (n k s : ℕ) → s ≡ startOf n k → s ≤ n

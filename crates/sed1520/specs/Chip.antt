@@ -9,7 +9,11 @@ use Rattle.sed1520.specs.declared.registers.ReadLatch.the-variants.{Fres
 -- the ranges of document 01, and no saved column while read-modify-write is off
 unfoldable pub inRange : Chip → Bool
 inRange c =
-    ltb (c .page) 4 && (ltb (c .«start_line») 32 && (ltb (c .column) 128 && (ltb (c .«saved_column») 128 && (c .modify || eqb (c .«saved_column») 0))))
+    ltb (c .page) 4
+    && (ltb (c .«start_line») 32
+    && (ltb (c .column) 128
+    && (ltb (c .«saved_column») 128
+    && (c .modify || eqb (c .«saved_column») 0))))
 
 -- the fresh chip, a project rule (document 01: house)
 unfoldable pub fresh : Chip
@@ -44,7 +48,18 @@ stale latch = Stale (latched latch)
 -- a chip from its registers, in their order
 abbrev pub chipOf : Bool → Bool → Bool → Bool → Bool → ℕ → ℕ → ℕ → ℕ → ReadLatch → Chip
 chipOf display static duty reverse modify page line column saved latch =
-    record { «display_on» = display; «static_on» = static; «duty_32» = duty; reverse = reverse; modify = modify; page = page; «start_line» = line; column = column; «saved_column» = saved; latch = latch }
+    record {
+      «display_on» = display;
+      «static_on» = static;
+      «duty_32» = duty;
+      reverse = reverse;
+      modify = modify;
+      page = page;
+      «start_line» = line;
+      column = column;
+      «saved_column» = saved;
+      latch = latch;
+    }
 
 -- the display flag written alone, every other register as it was; so with the next
 abbrev pub withDisplay : Bool → Chip → Chip

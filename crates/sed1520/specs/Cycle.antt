@@ -6,7 +6,8 @@ use mathlib.Core.Option.{Option, none, some}
 use lib.Dec.{ltb, leb, eqb}
 use lib.ListN.{length, getD, set}
 use Rattle.sed1520.specs.Choice.{if}
-use Rattle.sed1520.specs.Chip.{inRange, latched, kindOf, staled, withDisplay, withStatic, withDuty, withReverse, withPage, withStartLine, withColumn, withLatch, withModify}
+use Rattle.sed1520.specs.Chip.{inRange, latched, kindOf, staled}
+use Rattle.sed1520.specs.Chip.{withDisplay, withStatic, withDuty, withReverse, withPage, withStartLine, withColumn, withLatch, withModify}
 use Rattle.sed1520.specs.Command.{decodeOf, within}
 use Rattle.sed1520.specs.Memory.{ramIndex}
 use Rattle.sed1520.specs.declared.registers.Chip.{Chip}

@@ -75,7 +75,8 @@ pub record ChipExamples : Type 0 where
   pub p10-ac : (ran (command 0xAC ∷ []) ≡ refused 7) × (decodeOf 0xAC ≡ notTold 0xAC)
   pub p10-bc : (ran (command 0xBC ∷ []) ≡ refused 7) × (decodeOf 0xBC ≡ notTold 0xBC)
   pub p10-e3 : (ran (command 0xE3 ∷ []) ≡ refused 7) × (decodeOf 0xE3 ≡ notTold 0xE3)
-  pub p10-df : (ran (command 0xDF ∷ []) ≡ outcome (answered 0 0 (withStartLine 31 fresh)) blank) × (decodeOf 0xDF ≡ told (record { kind = StartLine; argument = 31 }))
+  pub p10-df : (ran (command 0xDF ∷ []) ≡ outcome (answered 0 0 (withStartLine 31 fresh)) blank)
+      × (decodeOf 0xDF ≡ told (record { kind = StartLine; argument = 31 }))
   pub p11-0 : (b : ℕ) → ran (sent 0 0 b ∷ []) ≡ refused 6
   pub p11-6 : (b : ℕ) → ran (sent 6 0 b ∷ []) ≡ refused 6
   pub p11-8 : (b : ℕ) → ran (sent 8 2 b ∷ []) ≡ refused 4

@@ -1,5 +1,5 @@
--- The laws by which the layers above know the cycle: what the records that they send do to the registers that they look at and to the RAM. The read
--- latch, the saved column and columns from 80 up are left unsaid.
+-- The laws by which the layers above know the cycle: what the records that they send do to the registers that they look at and to the
+-- RAM. The read latch, the saved column and columns from 80 up are left unsaid.
 use Prim.Native.Nat.{ℕ, _+_, _<_}
 use mathlib.Core.Path.{_≡_}
 use mathlib.Core.Bool.{Bool, true, false}
@@ -27,7 +27,16 @@ pub record Registers : Type 0 where
 -- those of a chip
 abbrev pub registers : Chip → Registers
 registers c =
-    record { display = c .«display_on»; static = c .«static_on»; duty = c .«duty_32»; reverse = c .reverse; modify = c .modify; page = c .page; line = c .«start_line»; column = c .column }
+    record {
+      display = c .«display_on»;
+      static = c .«static_on»;
+      duty = c .«duty_32»;
+      reverse = c .reverse;
+      modify = c .modify;
+      page = c .page;
+      line = c .«start_line»;
+      column = c .column;
+    }
 
 -- a record whose fourth byte is 0
 abbrev pub sent : ℕ → ℕ → ℕ → Record
@@ -48,7 +57,11 @@ pub record Accepts (r : Record) (c : Chip) (ram : List ℕ) (next : Registers) (
 
 -- the page set, the start line set, the column set below 80 with read-modify-write off, and the data write below column 80, on either chip
 pub record CycleLaws : Type 0 where
-  pub page-set : (c : Chip) (ram : List ℕ) → Fit c ram → (k : ℕ) → k < 2 → (n : ℕ) → n < 4 → Accepts (sent 2 k (first Page + n)) c ram (registers (withPage n c)) ram
-  pub start-line-set : (c : Chip) (ram : List ℕ) → Fit c ram → (k : ℕ) → k < 2 → (n : ℕ) → n < 32 → Accepts (sent 2 k (first StartLine + n)) c ram (registers (withStartLine n c)) ram
-  pub column-set : (c : Chip) (ram : List ℕ) → Fit c ram → (k : ℕ) → k < 2 → (n : ℕ) → n < 80 → c .modify ≡ false → Accepts (sent 2 k (first Column + n)) c ram (registers (withColumn n c)) ram
-  pub data-write : (c : Chip) (ram : List ℕ) → Fit c ram → (k : ℕ) → k < 2 → (b : ℕ) → c .column < 80 → Accepts (sent 3 k b) c ram (registers (withColumn (c .column + 1) c)) (set ram (ramIndex (c .page) (c .column)) b)
+  pub page-set : (c : Chip) (ram : List ℕ) → Fit c ram → (k : ℕ) → k < 2 → (n : ℕ) → n < 4
+      → Accepts (sent 2 k (first Page + n)) c ram (registers (withPage n c)) ram
+  pub start-line-set : (c : Chip) (ram : List ℕ) → Fit c ram → (k : ℕ) → k < 2 → (n : ℕ) → n < 32
+      → Accepts (sent 2 k (first StartLine + n)) c ram (registers (withStartLine n c)) ram
+  pub column-set : (c : Chip) (ram : List ℕ) → Fit c ram → (k : ℕ) → k < 2 → (n : ℕ) → n < 80 → c .modify ≡ false
+      → Accepts (sent 2 k (first Column + n)) c ram (registers (withColumn n c)) ram
+  pub data-write : (c : Chip) (ram : List ℕ) → Fit c ram → (k : ℕ) → k < 2 → (b : ℕ) → c .column < 80
+      → Accepts (sent 3 k b) c ram (registers (withColumn (c .column + 1) c)) (set ram (ramIndex (c .page) (c .column)) b)

@@ -25,8 +25,8 @@ countBelow test (suc n) = if (test n) 1 0 + countBelow test n
 abbrev pub isCommand : ℕ → Bool
 isCommand b = eqb (decodeOf b .number) 0
 
--- commands and bytes: a command whose argument is in range has a byte, each way undoes the other, on exactly 175 bytes; any other byte or command is
--- refused with number 7, itself or its argument as place
+-- commands and bytes: a command whose argument is in range has a byte, each way undoes the other, on exactly 175 bytes; any other byte or
+-- command is refused with number 7, itself or its argument as place
 pub record OneRule : Type 0 where
   pub byte-of : (m : Command) → m .argument < count (m .kind) → encodeOf m ≡ told (first (m .kind) + m .argument)
   pub there : (m : Command) (b : ℕ) → encodeOf m ≡ told b → decodeOf b ≡ told m
@@ -36,8 +36,8 @@ pub record OneRule : Type 0 where
   pub no-command : (b : ℕ) → isCommand b ≡ false → decodeOf b ≡ notTold b
   pub no-byte : (m : Command) → count (m .kind) ≤ m .argument → encodeOf m ≡ notTold (m .argument)
 
--- what holds of every outcome of a cycle: place 0, the RAM's length as it was, a chip in range still in range; refused, nothing is changed and the answer
--- is kind 0, byte 0
+-- what holds of every outcome of a cycle: place 0, the RAM's length as it was, a chip in range still in range; refused, nothing is changed
+-- and the answer is kind 0, byte 0
 pub record Keeps (c : Chip) (ram : List ℕ) (o : Outcome) : Type 0 where
   pub place : o .answer .place ≡ 0
   pub same-size : length (o .ram) ≡ length ram
@@ -56,8 +56,8 @@ EveryCycleSteps = (r : Record) (c : Chip) (ram : List ℕ) → length ram ≡ 32
 abbrev pub EveryHalfWhole : Type 0
 EveryHalfWhole = (p : Panel) → length (p .ram) ≡ 640 → (k : ℕ) → length (ramAt p k) ≡ 320
 
--- two chips on one bus: the outcome is that of the cycle of the record's own chip, with its bytes; that chip and its bytes are as its cycle leaves them,
--- the other chip and its bytes as they were
+-- two chips on one bus: the outcome is that of the cycle of the record's own chip, with its bytes; that chip and its bytes are as its
+-- cycle leaves them, the other chip and its bytes as they were
 pub record Apart (p : Panel) (r : Record) : Type 0 where
   pub own-cycle : outcomeOf p r ≡ cycleOf r (chipAt p (r .chip)) (ramAt p (r .chip))
   pub own-chip : chipAt (stepped p r) (r .chip) ≡ outcomeOf p r .answer .chip
@@ -70,8 +70,9 @@ pub record Apart (p : Panel) (r : Record) : Type 0 where
 abbrev pub EveryRecordApart : Type 0
 EveryRecordApart = (p : Panel) → length (p .ram) ≡ 640 → (r : Record) → Apart p r
 
--- a chip and its record: the record of a chip is read back as that chip, the chip of a record that passes is written back as that record, a record passes
--- number 2 exactly when its chip does, and a chip's record when the chip does; the same of two records; the record of the fresh chip
+-- a chip and its record: the record of a chip is read back as that chip, the chip of a record that passes is written back as that record,
+-- a record passes number 2 exactly when its chip does, and a chip's record when the chip does; the same of two records; the record of the
+-- fresh chip
 pub record RecordsUndo : Type 0 where
   pub there : (c : Chip) → chipIn (chipBytes c) ≡ c
   pub back : (b : List ℕ) → length b ≡ 12 → marksRight b ≡ true → chipBytes (chipIn b) ≡ b

@@ -2,14 +2,14 @@
 -- stores only the bytes of the chip record that it may change. For two records that number 2 lets pass, over the whole image, it is the cycle
 -- of the chip that the bus record names (EveryRecordStep).
 use Prim.Native.Nat.{ℕ}
-use mathlib.Core.Bool.{Bool, not, _||_}
+use mathlib.Core.Bool.{not, _||_}
 use mathlib.Core.List.{List, _++_}
 use lib.Dec.{leb, eqb}
 use lib.ListN.{length, take, drop, set}
 use Rattle.sed1520.specs.Choice.{if}
 use Rattle.sed1520.specs.Chip.{latched}
 use Rattle.sed1520.specs.ChipRecord.{mark, chipBytes, registersIn}
-use Rattle.sed1520.specs.Cycle.{Outcome, refusal, readLine, writeLine, commandWrite, dataWrite, dataRead, statusRead}
+use Rattle.sed1520.specs.Cycle.{Outcome, readLine, writeLine, commandWrite, dataWrite, dataRead, statusRead}
 use Rattle.sed1520.specs.declared.registers.Chip.{Chip}
 use Rattle.sed1520.specs.declared.actions.Answer.{Answer}
 use Rattle.sed1520.specs.declared.bus.Record.{Record}

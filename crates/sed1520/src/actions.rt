@@ -1,6 +1,7 @@
 // The four actions of a chip: a command write, a data write, a data read and a status read. Each hands the successor back.
 ghost use mathlib.Core.Path.{_≡_};
-ghost use Rattle.sed1520.specs.Cycle.{refusal, answered, outcome, columnLocked, commandWrite, dataWrite, afterRead, dataRead, statusOf, statusRead};
+ghost use Rattle.sed1520.specs.Cycle.{refusal, answered, outcome, columnLocked, commandWrite, dataWrite};
+ghost use Rattle.sed1520.specs.Cycle.{afterRead, dataRead, statusOf, statusRead};
 use crate::commands::Decoded;
 use crate::commands::decode;
 use crate::memory::load;

@@ -1,5 +1,4 @@
 // A chip as a record of 12 bytes, both ways.
-ghost use Prim.Native.Nat.{_≤_};
 ghost use mathlib.Core.Path.{_≡_};
 ghost use lib.ListN.{length};
 ghost use Rattle.sed1520.specs.ChipRecord.{bit, mark, latchOf, chipBytes, chipsBytes, registersIn, marksRight, noChip, chipIn, chipsIn};

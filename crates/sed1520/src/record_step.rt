@@ -1,6 +1,5 @@
 // A bus record given to the chip record that it names. The actions are the chip's own; each stores only the bytes of the
 // record that it may change.
-ghost use Prim.Native.Nat.{_≤_};
 ghost use mathlib.Core.Path.{_≡_};
 ghost use lib.ListN.{length};
 ghost use Rattle.sed1520.specs.ChipRecord.{registersIn};
@@ -61,7 +60,8 @@ fn write_data(bytes: &mut [u8], byte: u8, ram: &mut [u8]) -> BareAnswer
 fn read_data(bytes: &mut [u8], ram: &[u8]) -> BareAnswer
     requires { ⌜ length (now bytes) ≡ 12 ⌝ }
     ensures answer { λ r. ⌜ r ≡ bare (dataRead (registersIn (now (bytes .entry))) (now (ram .entry))) ⌝ }
-    ensures bytes { λ _. ⌜ now (bytes .exit) ≡ readBytes (now (bytes .entry)) (dataRead (registersIn (now (bytes .entry))) (now (ram .entry)) .chip) ⌝ }
+    ensures bytes { λ _. ⌜ now (bytes .exit)
+        ≡ readBytes (now (bytes .entry)) (dataRead (registersIn (now (bytes .entry))) (now (ram .entry)) .chip) ⌝ }
 {
     let answer = registers_in(bytes).data_read(ram);
     let after = answer.chip;

@@ -1,7 +1,7 @@
 -- For every k up to the place, the replay of the first k records is done and leaves what the whole replay had after k.
 use Prim.Native.Nat.{ℕ, zero, suc, _+_, _*_, _/_, _<_, _≤_}
 use native.Mathlib.Omega.{arith}
-use mathlib.Core.Path.{_≡_, refl, ap, _∙_}
+use mathlib.Core.Path.{_≡_, refl, _∙_}
 use mathlib.Core.Bool.{true, false}
 use mathlib.Core.List.{List, [], _∷_, _++_}
 use mathlib.Core.Logic.{⊎-elim}
@@ -12,7 +12,7 @@ use Rattle.sed1520.specs.Panel.{Panel, outcomeOf, stepped, after}
 use Rattle.sed1520.specs.declared.bus.Record.{Record}
 use Rattle.sed1520.proofs.Tests.{tested}
 use Rattle.sed1520.specs.Records.{front, recordsIn, wholeRecords}
-use Rattle.trace.specs.Replay.{Reply, replied, runOf, differingIn, Outcome, ended, replayOf}
+use Rattle.trace.specs.Replay.{Reply, Run, replied, runOf, differingIn, ended, replayOf}
 use Rattle.trace.specs.Promises.{Runs, repliesOf, AfterEach, AfterEachRecord}
 use Rattle.trace.proofs.ReplayCases.{runs}
 
@@ -21,11 +21,13 @@ pub run-none : (p : Panel) → runOf p [] ≡ record { number = 0; replies = [];
 unfolding runOf
 run-none p = refl
 
-pub run-accepted : (p : Panel) (r : Record) (rs : List Record) → eqb (outcomeOf p r .answer .number) 0 ≡ true → runOf p (r ∷ rs) ≡ replied (outcomeOf p r .answer .kind) (outcomeOf p r .answer .byte) (runOf (stepped p r) rs)
+pub run-accepted : (p : Panel) (r : Record) (rs : List Record) → eqb (outcomeOf p r .answer .number) 0 ≡ true
+    → runOf p (r ∷ rs) ≡ replied (outcomeOf p r .answer .kind) (outcomeOf p r .answer .byte) (runOf (stepped p r) rs)
 unfolding runOf
 run-accepted p r rs t = rw t
 
-pub run-refused : (p : Panel) (r : Record) (rs : List Record) → eqb (outcomeOf p r .answer .number) 0 ≡ false → runOf p (r ∷ rs) ≡ record { number = outcomeOf p r .answer .number; replies = []; panel = p }
+pub run-refused : (p : Panel) (r : Record) (rs : List Record) → eqb (outcomeOf p r .answer .number) 0 ≡ false
+    → runOf p (r ∷ rs) ≡ record { number = outcomeOf p r .answer .number; replies = []; panel = p }
 unfolding runOf
 run-refused p r rs t = rw t
 
@@ -37,8 +39,13 @@ pub after-one : (p : Panel) (r : Record) (rs : List Record) → after p (r ∷ r
 unfolding after
 after-one p r rs = refl
 
+-- a run that was done after the first k records, with the first k of these replies
+abbrev firstOf : ℕ → Panel → List Record → List Reply → Run
+firstOf k p rs given = record { number = 0; replies = take k given; panel = after p (take k rs) }
+
 -- a run of the first k records, where the whole run replied to as many
-run-prefix : (k : ℕ) (rs : List Record) (p : Panel) → k ≤ length (runOf p rs .replies) → runOf p (take k rs) ≡ record { number = 0; replies = take k (runOf p rs .replies); panel = after p (take k rs) }
+run-prefix : (k : ℕ) (rs : List Record) (p : Panel) → k ≤ length (runOf p rs .replies)
+    → runOf p (take k rs) ≡ firstOf k p rs (runOf p rs .replies)
 run-prefix zero rs p h = rw (run-none p, after-none p)
 run-prefix (suc k) [] p h = let h′ = rw run-none at h in absurd (omega arith)
 run-prefix (suc k) (r ∷ rs) p h =
@@ -59,7 +66,8 @@ replies-bound (r ∷ rs) p =
     (tested (eqb (outcomeOf p r .answer .number) 0))
 
 -- the counts of the first k replies need only the first k records
-differing-prefix : (k : ℕ) (given : List Reply) (rs : List Record) → differingIn (take k given) (take k rs) ≡ differingIn (take k given) rs
+differing-prefix : (k : ℕ) (given : List Reply) (rs : List Record)
+    → differingIn (take k given) (take k rs) ≡ differingIn (take k given) rs
 unfolding differingIn
 differing-prefix zero given rs = refl
 differing-prefix (suc k) [] rs = refl
@@ -68,19 +76,22 @@ differing-prefix (suc k) (a ∷ given) (r ∷ rs) = rw (differing-prefix k given
 
 -- the first four bytes make the first record
 front-take : (bytes more : List ℕ) → 4 ≤ length bytes → front (take 4 bytes ++ more) ≡ front bytes
-front-take bytes more h =
-    let four = length-take-le 4 bytes h in
-    let at : (i : ℕ) → i < 4 → getD (take 4 bytes ++ more) i 0 ≡ getD bytes i 0 = λ i l. List·getD-append (take 4 bytes) more 0 i (omega arith) ∙ getD-take 4 bytes i 0 l in
-    rw (at 0 (omega arith), at 1 (omega arith), at 2 (omega arith), at 3 (omega arith))
+front-take bytes more h = rw (at 0 (omega arith), at 1 (omega arith), at 2 (omega arith), at 3 (omega arith))
+  where
+    at : (i : ℕ) → i < 4 → getD (take 4 bytes ++ more) i 0 ≡ getD bytes i 0
+    at i l = List·getD-append (take 4 bytes) more 0 i (omega (arith, length-take-le 4 bytes h)) ∙ getD-take 4 bytes i 0 l
 
-records-prefix : (k n : ℕ) (bytes : List ℕ) → k ≤ n → 4 * n ≤ length bytes → recordsIn (take (4 * k) bytes) k ≡ take k (recordsIn bytes n)
+records-prefix : (k n : ℕ) (bytes : List ℕ) → k ≤ n → 4 * n ≤ length bytes
+    → recordsIn (take (4 * k) bytes) k ≡ take k (recordsIn bytes n)
 unfolding recordsIn
 records-prefix zero n bytes h l = refl
 records-prefix (suc k) zero bytes h l = absurd (omega arith)
 records-prefix (suc k) (suc n) bytes h l =
     let e : 4 * suc k ≡ 4 + 4 * k = omega arith in
+    let more = take (4 * k) (drop 4 bytes) in
     let four = length-take-le 4 bytes (omega arith) in
-    rw (e, take-add 4 (4 * k) bytes, front-take bytes (take (4 * k) (drop 4 bytes)) (omega arith), drop-at (take 4 bytes) (take (4 * k) (drop 4 bytes)) 4 four, records-prefix k n (drop 4 bytes) (omega arith) (simp length-drop (omega arith)))
+    let rest = records-prefix k n (drop 4 bytes) (omega arith) (simp length-drop (omega arith)) in
+    rw (e, take-add 4 (4 * k) bytes, front-take bytes more (omega arith), drop-at (take 4 bytes) more 4 four, rest)
 
 pub records-length : (n : ℕ) (bytes : List ℕ) → length (recordsIn bytes n) ≡ n
 unfolding recordsIn
@@ -100,7 +111,14 @@ module _ (p : Panel) (trace answers : List ℕ) (r : Runs p trace answers) (k : 
 
   prefix-runs : Runs p (take (4 * k) trace) answers
   prefix-runs =
-      record { size = omega (arith, r .size, bytes, recorded); image = r .image; space = omega (arith, r .space, bytes, recorded); left = r .left; right = r .right; whole = omega (arith, bytes) }
+      record {
+        size = omega (arith, r .size, bytes, recorded);
+        image = r .image;
+        space = omega (arith, r .space, bytes, recorded);
+        left = r .left;
+        right = r .right;
+        whole = omega (arith, bytes);
+      }
 
   prefix-records : wholeRecords (take (4 * k) trace) ≡ take k (wholeRecords trace)
   prefix-records =
@@ -108,7 +126,8 @@ module _ (p : Panel) (trace answers : List ℕ) (r : Runs p trace answers) (k : 
       rw e (records-prefix k (length trace / 4) trace recorded (omega arith))
 
   -- the replay of the first k records
-  prefix : replayOf p (take (4 * k) trace) answers ≡ ended (record { number = 0; replies = take k (repliesOf p trace); panel = after p (take k (wholeRecords trace)) }) (take k (wholeRecords trace)) answers
+  prefix : replayOf p (take (4 * k) trace) answers
+      ≡ ended (firstOf k p (wholeRecords trace) (repliesOf p trace)) (take k (wholeRecords trace)) answers
   prefix = runs p (take (4 * k) trace) answers prefix-runs ∙ rw (prefix-records, run-prefix k (wholeRecords trace) p replied-to)
 
   replied-length : length (take k (repliesOf p trace)) ≡ k
@@ -118,12 +137,12 @@ module _ (p : Panel) (trace answers : List ℕ) (r : Runs p trace answers) (k : 
   unfolding ended
   after-each =
       record {
-        number = ap (λ (o : Outcome). o .number) prefix;
-        place = ap (λ (o : Outcome). o .place) prefix ∙ replied-length;
-        compared = ap (λ (o : Outcome). o .compared) prefix;
-        differing = ap (λ (o : Outcome). o .differing) prefix ∙ differing-prefix k (repliesOf p trace) (wholeRecords trace);
-        panel = ap (λ (o : Outcome). o .panel) prefix;
-        answers-then = ap (λ (o : Outcome). o .answers) prefix ∙ rw replied-length;
+        number = rw prefix;
+        place = rw prefix replied-length;
+        compared = rw prefix;
+        differing = rw prefix (differing-prefix k (repliesOf p trace) (wholeRecords trace));
+        panel = rw prefix;
+        answers-then = rw (prefix, replied-length);
       }
 
 pub after-each-record : AfterEachRecord

@@ -23,7 +23,8 @@ pub record RunEnds (none : Record) (p : Panel) (rs : List Record) : Type 0 where
   pub panel : runOf p rs .panel ≡ after p (take (length (runOf p rs .replies)) rs)
   pub done : runOf p rs .number ≡ 0 → length (runOf p rs .replies) ≡ length rs
   pub before : (runOf p rs .number ≡ 0 → ⊥) → length (runOf p rs .replies) < length rs
-  pub refused : (runOf p rs .number ≡ 0 → ⊥) → outcomeOf (runOf p rs .panel) (getD rs (length (runOf p rs .replies)) none) .answer .number ≡ runOf p rs .number
+  pub refused : (runOf p rs .number ≡ 0 → ⊥)
+      → outcomeOf (runOf p rs .panel) (getD rs (length (runOf p rs .replies)) none) .answer .number ≡ runOf p rs .number
 
 run-ends : (none : Record) (rs : List Record) (p : Panel) → RunEnds none p rs
 run-ends none [] p =
@@ -46,7 +47,9 @@ run-ends none (r ∷ rs) p =
     (λ refused. let step = run-refused p r rs refused in
     record {
       panel = rw (step, after-none p);
-      done = λ e. let zero-number = eq-eqb (outcomeOf p r .answer .number) 0 (rw step at e) in absurd (true≢false (sym zero-number ∙ refused));
+      done = λ e.
+          let accepted = eq-eqb (outcomeOf p r .answer .number) 0 (rw step at e) in
+          absurd (true≢false (sym accepted ∙ refused));
       before = λ h. rw step (omega arith);
       refused = λ h. rw step;
     })
@@ -78,7 +81,8 @@ module _ (p : Panel) (trace answers : List ℕ) (r : Runs p trace answers) where
         refused = λ h.
             let h′ : runOf p (wholeRecords trace) .number ≡ 0 → ⊥ = λ e. h (rw whole e) in
             let less = run .before h′ in
-            rw (whole, sym (record-at (length trace / 4) (length (runOf p (wholeRecords trace) .replies)) trace (front []) (omega (arith, all)))) (run .refused h′);
+            let there = record-at (length trace / 4) (length (runOf p (wholeRecords trace) .replies)) trace (front []) (omega (arith, all)) in
+            rw (whole, sym there) (run .refused h′);
       }
 
 pub every-replay-ends : EveryReplayEnds

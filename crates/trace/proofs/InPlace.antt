@@ -1,14 +1,12 @@
 -- A replay over chip records: where it refuses, the records stay; else they are those of the panel's chips.
-use Prim.Native.Nat.{ℕ, _/_, _%_}
+use Prim.Native.Nat.{ℕ}
 use mathlib.Core.Path.{_≡_, refl, sym, ap, _∙_}
-use mathlib.Core.Bool.{Bool, true, false, not, _&&_, true≢false}
+use mathlib.Core.Bool.{true, false, not, _&&_, true≢false}
 use mathlib.Core.List.{List}
-use lib.Dec.{eqb}
 use lib.ListN.{length, take, drop}
 use borrow.Author.Tests.{eq-eqb, ne-eqb, not-false}
-use Rattle.sed1520.specs.Choice.{if}
 use Rattle.sed1520.specs.Chip.{inRange}
-use Rattle.sed1520.specs.ChipRecord.{recordRight, chipIn, chipsBytes, chipsOf, chipsIn, panelIn}
+use Rattle.sed1520.specs.ChipRecord.{recordRight, chipIn, chipsBytes, chipsIn, panelIn}
 use Rattle.sed1520.specs.Panel.{Panel, panelOf}
 use Rattle.sed1520.specs.Promises.{RecordsFit}
 use Rattle.sed1520.specs.declared.registers.Chip.{Chip}
@@ -26,10 +24,11 @@ kept chips ram h =
     (λ _. refl)
 
 -- records that passed before and after are those of the panel afterwards
-pub settled-at : (from ram₀ chips ram answers : List ℕ) (n compared differing at : ℕ) (whole : Outcome) → RecordsFit from ram₀ → RecordsFit chips ram
+pub settled-at : {from ram₀ chips ram answers : List ℕ} {n compared differing at : ℕ} {whole : Outcome}
+    → RecordsFit from ram₀ → RecordsFit chips ram
     → stoppedAt n compared differing at (panelIn chips ram) answers ≡ whole
     → inPlace (record { number = n; place = at; compared = compared; differing = differing }) chips ram answers ≡ settled from whole
-settled-at from ram₀ chips ram answers n compared differing at whole before after e =
+settled-at {chips = chips} before after e =
     rw (← e, before .left, before .right, two-back chips (after .records) (after .left) (after .right))
 
 module _ (chips ram trace answers : List ℕ) where
@@ -58,13 +57,21 @@ records-fit chips ram h left right image =
     record { records = h; left = sym (passes (take 12 chips)) ∙ l; right = sym (passes (drop 12 chips)) ∙ r; image = image }
 
 -- a chip out of range: the panel stays
-out-of-range : (p : Panel) (trace answers : List ℕ) → (inRange (p .left) && inRange (p .right)) ≡ false → replayOf p trace answers .panel ≡ p
+abbrev Stays : Panel → Outcome → Type 0
+Stays p o = o .panel ≡ p
+
+out-of-range : (p : Panel) (trace answers : List ℕ) → (inRange (p .left) && inRange (p .right)) ≡ false
+    → Stays p (replayOf p trace answers)
 unfolding replayOf
 out-of-range p trace answers out =
-    when (λ (o : Outcome). o .panel ≡ p) (sizesWrong (length trace) (length (p .ram)) (length answers)) (λ _. refl)
-    (λ _. when (λ (o : Outcome). o .panel ≡ p) (not (inRange (p .left))) (λ _. refl)
-    (λ l. when (λ (o : Outcome). o .panel ≡ p) (not (inRange (p .right))) (λ _. refl)
+    when (Stays p) (sizesWrong (length trace) (length (p .ram)) (length answers)) (λ _. refl)
+    (λ _. when (Stays p) (not (inRange (p .left))) (λ _. refl)
+    (λ l. when (Stays p) (not (inRange (p .right))) (λ _. refl)
     (λ r. absurd (true≢false (rw (not-false (inRange (p .left)) l, not-false (inRange (p .right)) r) at out)))))
+
+-- the panel of two chips, read from their records
+panel-there : (left right : Chip) (ram : List ℕ) → panelIn (chipsBytes left right) ram ≡ panelOf left right ram
+panel-there left right ram = ap (λ (c : Chips). panelOf (c .left) (c .right) ram) (two-there left right)
 
 -- a panel read back from the records of two chips, where it is theirs if one of them is out of range
 panel-back : (left right : Chip) (ram : List ℕ) (p : Panel) → ((inRange left && inRange right) ≡ false → p ≡ panelOf left right ram)
@@ -72,9 +79,9 @@ panel-back : (left right : Chip) (ram : List ℕ) (p : Panel) → ((inRange left
 panel-back left right ram p stays =
     rw (two-pass left right)
     (when (λ (l : List ℕ). panelIn l (p .ram) ≡ p) (inRange left && inRange right)
-    (λ _. ap (λ (c : Chips). panelOf (c .left) (c .right) (p .ram)) (two-there (p .left) (p .right)))
+    (λ _. panel-there (p .left) (p .right) (p .ram))
     (λ f. let same = stays f in
-    ap (λ (c : Chips). panelOf (c .left) (c .right) (p .ram)) (two-there left right) ∙ ap (λ (q : Panel). panelOf left right (q .ram)) same ∙ sym same))
+    panel-there left right (p .ram) ∙ ap (λ (q : Panel). panelOf left right (q .ram)) same ∙ sym same))
 
 -- what stands after a replay over records, with the chips read back
 abbrev asOutcome : InPlace → Outcome
@@ -88,11 +95,11 @@ asOutcome i =
       answers = i .answers;
     }
 
-pub by-value : (left right : Chip) (ram trace answers : List ℕ) (i : InPlace) → i ≡ replayInPlace (chipsBytes left right) ram trace answers
-    → asOutcome i ≡ replayOf (panelOf left right ram) trace answers
-by-value left right ram trace answers i e =
+pub by-value : (left right : Chip) (chips ram trace answers : List ℕ) (i : InPlace) → chips ≡ chipsBytes left right
+    → i ≡ replayInPlace chips ram trace answers → asOutcome i ≡ replayOf (panelOf left right ram) trace answers
+by-value left right chips ram trace answers i theirs e =
     let whole = replayOf (panelOf left right ram) trace answers in
     let on-records = on-panel (chipsBytes left right) ram trace answers (two-length left right) in
-    let same = e ∙ (rw (two-there left right) at on-records) in
+    let same = (rw theirs at e) ∙ (rw (two-there left right) at on-records) in
     ap asOutcome same
     ∙ rw (panel-back left right ram (whole .panel) (out-of-range (panelOf left right ram) trace answers))

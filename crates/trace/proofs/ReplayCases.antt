@@ -23,14 +23,20 @@ unfolding sizesWrong
 sizes-right trace ram answers e =
     let long = neither (ltb 65536 trace) _ e in
     let rest = neither (not (eqb ram 640)) (ltb answers (2 * (trace / 4))) (long .1) in
-    record { short = ltb-false 65536 trace (long .0); image = eqb-true ram 640 (not-false (eqb ram 640) (rest .0)); space = ltb-false answers (2 * (trace / 4)) (rest .1) }
+    record {
+      short = ltb-false 65536 trace (long .0);
+      image = eqb-true ram 640 (not-false (eqb ram 640) (rest .0));
+      space = ltb-false answers (2 * (trace / 4)) (rest .1);
+    }
 
 right-sizes : (trace ram answers : ℕ) → trace ≤ 65536 → ram ≡ 640 → 2 * (trace / 4) ≤ answers → sizesWrong trace ram answers ≡ false
 unfolding sizesWrong
-right-sizes trace ram answers short image space = rw (le-ltb 65536 trace short, eq-eqb ram 640 image, le-ltb answers (2 * (trace / 4)) space)
+right-sizes trace ram answers short image space =
+    rw (le-ltb 65536 trace short, eq-eqb ram 640 image, le-ltb answers (2 * (trace / 4)) space)
 
 module _ (p : Panel) (trace answers : List ℕ) where
-  pub size-refused : sizesWrong (length trace) (length (p .ram)) (length answers) ≡ true → replayOf p trace answers ≡ refusedAt 1 0 p answers
+  pub size-refused : sizesWrong (length trace) (length (p .ram)) (length answers) ≡ true
+      → replayOf p trace answers ≡ refusedAt 1 0 p answers
   unfolding replayOf
   size-refused e = rw e
 
@@ -49,10 +55,13 @@ module _ (p : Panel) (trace answers : List ℕ) where
         unfolding replayOf
         length-refused h = rw (sizes, left, right, ne-eqb (length trace % 4) 0 h)
 
-        pub records-run : length trace % 4 ≡ 0 → replayOf p trace answers ≡ ended (runOf p (wholeRecords trace)) (wholeRecords trace) answers
+        pub records-run : length trace % 4 ≡ 0
+            → replayOf p trace answers ≡ ended (runOf p (wholeRecords trace)) (wholeRecords trace) answers
         unfolding replayOf
         records-run h = rw (sizes, left, right, eq-eqb (length trace % 4) 0 h)
 
   -- none of numbers 1 to 3
   pub runs : Runs p trace answers → replayOf p trace answers ≡ ended (runOf p (wholeRecords trace)) (wholeRecords trace) answers
-  runs r = records-run (right-sizes (length trace) (length (p .ram)) (length answers) (r .size) (r .image) (r .space)) (r .left) (r .right) (r .whole)
+  runs r =
+      let sizes = right-sizes (length trace) (length (p .ram)) (length answers) (r .size) (r .image) (r .space) in
+      records-run sizes (r .left) (r .right) (r .whole)

@@ -11,7 +11,7 @@ use Rattle.sed1520.specs.Choice.{if}
 use Rattle.sed1520.specs.ChipRecord.{panelIn}
 use Rattle.sed1520.specs.Panel.{Panel, outcomeOf, stepped}
 use Rattle.sed1520.specs.Promises.{RecordsFit}
-use Rattle.sed1520.specs.RecordStep.{Acted, acted, stepRecords}
+use Rattle.sed1520.specs.RecordStep.{acted, stepRecords}
 use Rattle.sed1520.specs.Records.{front, recordsIn, wholeRecords}
 use Rattle.sed1520.specs.declared.bus.Record.{Record}
 use Rattle.sed1520.specs.declared.record_step.BareAnswer.{BareAnswer}
@@ -21,6 +21,10 @@ use Rattle.sed1520.proofs.RecordSteps.{every-record-step}
 use Rattle.trace.specs.Replay.{isCompared, Outcome, runOf, ended}
 use Rattle.trace.proofs.Resumed.{resumed, stoppedAt, begun, no-more, refused-turn, accepted-turn}
 
+-- the records of a trace from a place on
+abbrev leftAt : List ℕ → ℕ → List Record
+leftAt trace at = recordsIn (drop (4 * at) trace) (length trace / 4 - at)
+
 pub record Upto (trace : List ℕ) (space : ℕ) (whole : Outcome) (chips ram answers : List ℕ) (compared differing at : ℕ) : Type 0 where
   pub size : length trace ≤ 65536
   pub enough : 2 * (length trace / 4) ≤ space
@@ -29,7 +33,7 @@ pub record Upto (trace : List ℕ) (space : ℕ) (whole : Outcome) (chips ram an
   pub buffer : length answers ≡ space
   pub fewer : compared ≤ at
   pub less : differing ≤ at
-  pub ends : resumed compared differing at (panelIn chips ram) (recordsIn (drop (4 * at) trace) (length trace / 4 - at)) answers ≡ whole
+  pub ends : resumed compared differing at (panelIn chips ram) (leftAt trace at) answers ≡ whole
 
 -- a record given to its chip: the answer that the panel gives, the panel after it, and records that pass again
 record Turned (p : Panel) (bus : Record) (a : BareAnswer) (chips ram : List ℕ) : Type 0 where
@@ -45,7 +49,8 @@ unfolding recordsIn
 next-record bytes zero h = absurd (omega arith)
 next-record bytes (suc n) h = let e : suc n - 1 ≡ n = omega arith in rw e
 
-left-records : (trace : List ℕ) (at : ℕ) → at < length trace / 4 → recordsIn (drop (4 * at) trace) (length trace / 4 - at) ≡ front (drop (4 * at) trace) ∷ recordsIn (drop (4 * (at + 1)) trace) (length trace / 4 - (at + 1))
+left-records : (trace : List ℕ) (at : ℕ) → at < length trace / 4
+    → leftAt trace at ≡ front (drop (4 * at) trace) ∷ leftAt trace (at + 1)
 left-records trace at h =
     let e1 : length trace / 4 - at - 1 ≡ length trace / 4 - (at + 1) = omega arith in
     let e2 : 4 * at + 4 ≡ 4 * (at + 1) = omega arith in
@@ -53,7 +58,8 @@ left-records trace at h =
 
 -- before the first record
 pub started : (trace answers chips ram : List ℕ) → RecordsFit chips ram → length trace ≤ 65536 → 2 * (length trace / 4) ≤ length answers
-    → Upto trace (length answers) (ended (runOf (panelIn chips ram) (wholeRecords trace)) (wholeRecords trace) answers) chips ram answers 0 0 0
+    → Upto trace (length answers) (ended (runOf (panelIn chips ram) (wholeRecords trace)) (wholeRecords trace) answers)
+    chips ram answers 0 0 0
 started trace answers chips ram fits size enough =
     let all : length trace / 4 - 0 ≡ length trace / 4 = omega arith in
     record {
@@ -71,7 +77,8 @@ pub at-most-one : (t : Bool) → if t 1 0 ≤ 1
 at-most-one true = omega arith
 at-most-one false = omega arith
 
-module _ {trace : List ℕ} {space : ℕ} {whole : Outcome} {chips ram answers : List ℕ} {compared differing at : ℕ} (upto : Upto trace space whole chips ram answers compared differing at) where
+module _ {trace : List ℕ} {space : ℕ} {whole : Outcome} {chips ram answers : List ℕ} {compared differing at : ℕ}
+    (upto : Upto trace space whole chips ram answers compared differing at) where
   pub finished : length trace / 4 ≤ at → stoppedAt 0 compared differing at (panelIn chips ram) answers ≡ whole
   unfolding recordsIn
   finished h =
@@ -79,25 +86,22 @@ module _ {trace : List ℕ} {space : ℕ} {whole : Outcome} {chips ram answers :
       sym (no-more compared differing at (panelIn chips ram) answers) ∙ (rw e at (upto .ends))
 
   -- a record is left, read as a part of the trace, and given to its chip
-  module _ (more : at < length trace / 4) (bus : Record) (read : bus ≡ front (take (length trace - 4 * at) (drop (4 * at) trace)))
-      (a : BareAnswer) (chips′ ram′ : List ℕ) (step : acted a chips′ ram′ ≡ stepRecords bus chips ram) where
+  module _ (more : at < length trace / 4) {bus : Record} (read : bus ≡ front (take (length trace - 4 * at) (drop (4 * at) trace)))
+      {a : BareAnswer} {chips′ ram′ : List ℕ} (step : acted a chips′ ram′ ≡ stepRecords bus chips ram) where
     here : bus ≡ front (drop (4 * at) trace)
     here = read ∙ ap front (rest trace (4 * at))
 
-    split : resumed compared differing at (panelIn chips ram) (bus ∷ recordsIn (drop (4 * (at + 1)) trace) (length trace / 4 - (at + 1))) answers ≡ whole
+    split : resumed compared differing at (panelIn chips ram) (bus ∷ leftAt trace (at + 1)) answers ≡ whole
     split = rw (here, ← left-records trace at more) (upto .ends)
 
     on-panel : Turned (panelIn chips ram) bus a chips′ ram′
     on-panel =
         let law = every-record-step bus chips ram (upto .fits) in
-        let number = ap (λ (o : Acted). o .answer .number) step in
-        let kind = ap (λ (o : Acted). o .answer .kind) step in
-        let byte = ap (λ (o : Acted). o .answer .byte) step in
         record {
-          number = number ∙ law .number;
-          kind = kind ∙ law .kind;
-          byte = byte ∙ law .byte;
-          panel = ap (λ (o : Acted). panelIn (o .chips) (o .ram)) step ∙ law .panel;
+          number = rw (← step) at (law .number);
+          kind = rw (← step) at (law .kind);
+          byte = rw (← step) at (law .byte);
+          panel = rw (← step) at (law .panel);
           fit = rw (← step) at (law .fit);
         }
 
@@ -112,9 +116,11 @@ module _ {trace : List ℕ} {space : ℕ} {whole : Outcome} {chips ram answers :
         rw (on-panel .number, on-panel .panel, refused-record (panelIn chips ram) bus (nonzero h))
         (sym (refused-turn compared differing at (panelIn chips ram) answers bus _ (nonzero h)) ∙ split)
 
-    pub accepted-here : a .number ≡ 0 → (one other : ℕ) → one ≡ if (isCompared (a .kind)) 1 0 → other ≡ if (isCompared (a .kind) && not (eqb (a .byte) (bus .byte))) 1 0
-        → Upto trace space whole chips′ ram′ (set (set answers (2 * at) (a .kind)) (2 * at + 1) (a .byte)) (compared + one) (differing + other) (at + 1)
-    accepted-here h one other one-is other-is =
+    pub accepted-here : a .number ≡ 0 → {one other : ℕ} → one ≡ if (isCompared (a .kind)) 1 0
+        → other ≡ if (isCompared (a .kind) && not (eqb (a .byte) (bus .byte))) 1 0
+        → Upto trace space whole chips′ ram′ (set (set answers (2 * at) (a .kind)) (2 * at + 1) (a .byte))
+        (compared + one) (differing + other) (at + 1)
+    accepted-here h one-is other-is =
         record {
           size = upto .size;
           enough = upto .enough;
@@ -124,6 +130,7 @@ module _ {trace : List ℕ} {space : ℕ} {whole : Outcome} {chips ram answers :
           fewer = omega (arith, at-most-one (isCompared (a .kind)));
           less = omega (arith, at-most-one (isCompared (a .kind) && not (eqb (a .byte) (bus .byte))));
           ends =
-              rw (one-is, other-is, on-panel .panel, on-panel .kind, on-panel .byte)
-              (sym (accepted-turn compared differing at (panelIn chips ram) answers bus _ (sym (on-panel .number) ∙ h) (omega (arith, upto .buffer))) ∙ split);
+              let accepted = sym (on-panel .number) ∙ h in
+              let turn = accepted-turn compared differing at (panelIn chips ram) answers bus _ accepted (omega (arith, upto .buffer)) in
+              rw (one-is, other-is, on-panel .panel, on-panel .kind, on-panel .byte) (sym turn ∙ split);
         }

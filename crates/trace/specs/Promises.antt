@@ -33,15 +33,19 @@ pub record AfterEach (p : Panel) (trace answers : List ℕ) (k : ℕ) : Type 0 w
 
 -- for every replay that numbers 1 to 3 let pass and every k up to its place
 abbrev pub AfterEachRecord : Type 0
-AfterEachRecord = (p : Panel) (trace answers : List ℕ) → Runs p trace answers → (k : ℕ) → k ≤ replayOf p trace answers .place → AfterEach p trace answers k
+AfterEachRecord =
+    (p : Panel) (trace answers : List ℕ) → Runs p trace answers → (k : ℕ) → k ≤ replayOf p trace answers .place
+    → AfterEach p trace answers k
 
--- how a replay ends: the panel is as the records before the place leave it; done, they are all; refused, the number is the one by which the record at the
--- place is refused there
+-- how a replay ends: the panel is as the records before the place leave it; done, they are all; refused, the number is the one by which
+-- the record at the place is refused there
 pub record Ends (p : Panel) (trace answers : List ℕ) : Type 0 where
   pub panel : replayOf p trace answers .panel ≡ after p (take (replayOf p trace answers .place) (wholeRecords trace))
   pub done : replayOf p trace answers .number ≡ 0 → replayOf p trace answers .place ≡ length trace / 4
   pub before : (replayOf p trace answers .number ≡ 0 → ⊥) → replayOf p trace answers .place < length trace / 4
-  pub refused : (replayOf p trace answers .number ≡ 0 → ⊥) → outcomeOf (replayOf p trace answers .panel) (front (drop (4 * replayOf p trace answers .place) trace)) .answer .number ≡ replayOf p trace answers .number
+  pub refused : (replayOf p trace answers .number ≡ 0 → ⊥)
+      → outcomeOf (replayOf p trace answers .panel) (front (drop (4 * replayOf p trace answers .place) trace)) .answer .number
+      ≡ replayOf p trace answers .number
 
 -- every replay that numbers 1 to 3 let pass
 abbrev pub EveryReplayEnds : Type 0

@@ -13,7 +13,8 @@ use Rattle.sed1520.specs.Records.{wholeRecords}
 use Rattle.trace.specs.declared.Ran.{Ran}
 use Rattle.trace.specs.declared.Replayed.{Replayed}
 
--- what an accepted record is answered, by kind: 0 a write, with byte 0; 1 a data read with a fresh latch, 2 one with a stale latch, 3 status, with the byte read
+-- what an accepted record is answered, by kind: 0 a write, with byte 0; 1 a data read with a fresh latch, 2 one with a stale latch,
+-- 3 status, with the byte read
 pub record Reply : Type 0 where
   pub kind : ℕ
   pub byte : ℕ

@@ -9,7 +9,8 @@ ghost use Rattle.sed1520.specs.ChipRecord.{panelIn};
 ghost use Rattle.sed1520.specs.Panel.{panelOf};
 ghost use Rattle.sed1520.specs.Promises.{RecordsFit};
 ghost use Rattle.sed1520.specs.Records.{front, wholeRecords};
-ghost use Rattle.trace.specs.Replay.{isCompared, refusal, outcome, runOf, ended, sizesWrong, replayOf, inPlace, settled, replayInPlace};
+ghost use Rattle.trace.specs.Replay.{isCompared, refusal, outcome, runOf, ended, sizesWrong, replayOf};
+ghost use Rattle.trace.specs.Replay.{inPlace, settled, replayInPlace};
 use sed1520::bus::IMAGE_BYTES;
 use sed1520::bus::Record;
 use sed1520::chip_record::CHIPS_BYTES;
@@ -84,7 +85,8 @@ fn run(chips: &mut [u8], ram: &mut [u8], trace: &[u8], answers: &mut [u8]) -> Ra
     requires { ⌜ length (now trace) ≤ 65536 ⌝ }
     ensures { λ r. ⌜ inPlace r (now (chips .exit)) (now (ram .exit)) (now (answers .exit))
         ≡ settled (now (chips .entry))
-        (ended (runOf (panelIn (now (chips .entry)) (now (ram .entry))) (wholeRecords (now (trace .entry)))) (wholeRecords (now (trace .entry))) (now (answers .entry))) ⌝ }
+        (ended (runOf (panelIn (now (chips .entry)) (now (ram .entry))) (wholeRecords (now (trace .entry))))
+        (wholeRecords (now (trace .entry))) (now (answers .entry))) ⌝ }
 {
     let mut compared: u64 = 0;
     let mut differing: u64 = 0;
@@ -127,8 +129,8 @@ fn refused(number: u8, place: u64) -> Ran
     }
 }
 
-// The replay of a trace on two chip records, which are rewritten, and the image of both chips, two answer bytes for each record; refuses by number
-// what does not fit.
+// The replay of a trace on two chip records, which are rewritten, and the image of both chips, two answer bytes for each record;
+// refuses by number what does not fit.
 pub fn replay_in_place(chips: &mut [u8], ram: &mut [u8], trace: &[u8], answers: &mut [u8]) -> Ran
     ensures { λ r. ⌜ inPlace r (now (chips .exit)) (now (ram .exit)) (now (answers .exit))
         ≡ replayInPlace (now (chips .entry)) (now (ram .entry)) (now (trace .entry)) (now (answers .entry)) ⌝ }

@@ -6,14 +6,15 @@ use borrow.Author.Needs.{needs}
 use Rattle.pedralume.proofs.pedralume_replay.Statement.{statement}
 use Rattle.pedralume.proofs.pedralume_replay.Tie as tie
 
+-- the replay, from past the buffers that it was lent
+abbrev replayed : tie.After-slice-known6 → tie.After-replay-in-place
+replayed c = c .before .before .before .before .before .before
+
 pack-requires : tie.Need-pack-requires
-pack-requires c κs =
-    packable _ _ _ _ _ (c .before .before .before .before .before .before .replay-in-place .ensures)
+pack-requires c κs = packable _ _ _ _ _ (replayed c .replay-in-place .ensures)
 
 returns : tie.Need-returns
-returns c =
-    let ran = c .before .before .before .before .before .before .before .replay-in-place in
-    rw (c .pack .ensures) (ap replayedCall (ran .ensures))
+returns c = rw (c .pack .ensures) (ap replayedCall (replayed (c .before) .replay-in-place .ensures))
 
 pub pedralume-replay-spec : {M : Type 1} → statement M
 pedralume-replay-spec =

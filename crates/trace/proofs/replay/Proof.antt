@@ -1,20 +1,21 @@
 -- `trace::replay` meets its contract: the replay over the records of both chips, read back.
-use mathlib.Core.Path.{ap, _∙_}
-use mathlib.Core.List.{List}
-use Prim.Native.Nat.{ℕ}
-use Rattle.trace.specs.Replay.{replayInPlace}
 use Rattle.trace.proofs.InPlace.{by-value}
 use borrow.Author.Needs.{needs}
 use Rattle.trace.proofs.replay.Statement.{statement}
 use Rattle.trace.proofs.replay.Tie as tie
 
+-- the places before the chips are read back: the replay, and the records written for it
+abbrev replayed : tie.After-chips-in → tie.After-replay-in-place
+replayed c = c .before .before .before .before .before .before .before
+
+abbrev written : tie.After-replay-in-place → tie.After-chips-bytes
+written c = c .before .before .before .before
+
 returns : tie.Need-returns
 returns c =
-    let ran = c .before .before .before .before .before .before .before .before .before in
-    let written = ran .before .before .before .before in
-    let at = written .before .before .before .before .args in
-    let from = ap (λ (b : List ℕ). replayInPlace b (at .ram .now) (at .trace .now) (at .answers .now)) (written .chips-bytes .ensures) in
-    rw (c .before .before .chips-in .ensures) (by-value (at .left) (at .right) _ _ _ _ (ran .replay-in-place .ensures ∙ from))
+    let read = c .before .before in
+    let ran = replayed read in
+    rw (read .chips-in .ensures) (by-value _ _ _ _ _ _ _ (written ran .chips-bytes .ensures) (ran .replay-in-place .ensures))
 
 pub replay-spec : {M : Type 1} → statement M
 replay-spec =

@@ -1,12 +1,45 @@
 -- `trace::replay_in_place` meets its contract: numbers 1 to 3, then the records.
 use native.Mathlib.Omega.{arith}
-use mathlib.Core.Path.{sym, _∙_}
+use mathlib.Core.Path.{_≡_, sym, _∙_}
+use mathlib.Core.Bool.{true, false}
+use lib.ListN.{length}
 use borrow.Author.Tests.{not-true, not-false}
+use Rattle.sed1520.specs.Chip.{inRange}
+use Rattle.sed1520.specs.ChipRecord.{chipsIn}
+use Rattle.trace.specs.Replay.{sizesWrong}
 use Rattle.trace.proofs.InPlace.{chips-refused, as-panel, refused-before, records-fit}
 use Rattle.trace.proofs.ReplayCases.{sizes-right, size-refused, left-refused, right-refused, length-refused, records-run}
 use borrow.Author.Needs.{needs}
 use Rattle.trace.proofs.replay_in_place.Statement.{statement}
 use Rattle.trace.proofs.replay_in_place.Tie as tie
+
+-- the start, from past each test
+abbrev first : tie.Else1 → tie.Start
+first c = c .before .before .before .before .before
+
+abbrev second : tie.Else2 → tie.Start
+second c = first (c .before .before)
+
+-- the chips read, from past the test of the left one; and what stands before the test of the right one
+abbrev read : tie.Else3 → tie.After-chips-in
+read c = c .before .before .before
+
+abbrev sized : tie.After-chips-in → tie.Else2
+sized c = c .before .before
+
+abbrev left-passed : tie.Else4 → tie.Else3
+left-passed c = c .before .before .before
+
+-- what each test showed
+sizes : (c : tie.Else2)
+    → let at = second c .args in sizesWrong (length (at .trace .now)) (length (at .ram .now)) (length (at .answers .now)) ≡ false
+sizes c = sym (c .before .sizes-wrong .ensures) ∙ c .if2 .left
+
+left-in : (c : tie.Else3) → inRange (chipsIn (second (sized (read c)) .args .chips .now) .left) ≡ true
+left-in c = rw (read c .chips-in .ensures) at (sym (c .before .in-range .ensures) ∙ not-false _ (c .if3 .left))
+
+right-in : (c : tie.Else4) → inRange (chipsIn (second (sized (read (left-passed c))) .args .chips .now) .right) ≡ true
+right-in c = rw (read (left-passed c) .chips-in .ensures) at (sym (c .before .in-range2 .ensures) ∙ not-false _ (c .if4 .left))
 
 returns : tie.Need-returns
 returns c = rw (c .refused .ensures) (sym (chips-refused _ _ _ _ (c .before .if1 .taken)))
@@ -18,65 +51,41 @@ returns-2 c =
 
 returns-3 : tie.Need-returns-3
 returns-3 c =
-    let left = c .before .before in
-    let read = left .before .before in
-    let sized = read .before .before in
-    let sizes = sym (sized .before .sizes-wrong .ensures) ∙ sized .if2 .left in
-    let out = rw (read .chips-in .ensures) at (sym (left .in-range .ensures) ∙ not-true _ (c .before .if3 .taken)) in
-    rw (c .refused3 .ensures) (sym (refused-before _ _ _ _ (omega arith) 2 0 (left-refused _ _ _ sizes out)))
+    let test = c .before .before in
+    let chips = test .before .before in
+    let out = rw (chips .chips-in .ensures) at (sym (test .in-range .ensures) ∙ not-true _ (c .before .if3 .taken)) in
+    rw (c .refused3 .ensures) (sym (refused-before _ _ _ _ (omega arith) 2 0 (left-refused _ _ _ (sizes (sized chips)) out)))
 
 returns-4 : tie.Need-returns-4
 returns-4 c =
-    let right = c .before .before in
-    let passed = right .before .before in
-    let left = passed .before in
-    let read = left .before .before in
-    let sized = read .before .before in
-    let sizes = sym (sized .before .sizes-wrong .ensures) ∙ sized .if2 .left in
-    let within = rw (read .chips-in .ensures) at (sym (left .in-range .ensures) ∙ not-false _ (passed .if3 .left)) in
-    let out = rw (read .chips-in .ensures) at (sym (right .in-range2 .ensures) ∙ not-true _ (c .before .if4 .taken)) in
-    rw (c .refused4 .ensures) (sym (refused-before _ _ _ _ (omega arith) 2 1 (right-refused _ _ _ sizes within out)))
+    let test = c .before .before in
+    let left = test .before .before in
+    let out = rw (read left .chips-in .ensures) at (sym (test .in-range2 .ensures) ∙ not-true _ (c .before .if4 .taken)) in
+    let right-out = right-refused _ _ _ (sizes (sized (read left))) (left-in left) out in
+    rw (c .refused4 .ensures) (sym (refused-before _ _ _ _ (omega arith) 2 1 right-out))
 
 returns-5 : tie.Need-returns-5
 returns-5 c =
-    let passed-right = c .before .before in
-    let right = passed-right .before in
-    let passed = right .before .before in
-    let left = passed .before in
-    let read = left .before .before in
-    let sized = read .before .before in
-    let sizes = sym (sized .before .sizes-wrong .ensures) ∙ sized .if2 .left in
-    let first = rw (read .chips-in .ensures) at (sym (left .in-range .ensures) ∙ not-false _ (passed .if3 .left)) in
-    let second = rw (read .chips-in .ensures) at (sym (right .in-range2 .ensures) ∙ not-false _ (passed-right .if4 .left)) in
-    rw (c .refused5 .ensures) (sym (refused-before _ _ _ _ (omega arith) 3 _ (length-refused _ _ _ sizes first second (c .before .if5 .taken))))
+    let right = c .before .before in
+    let left = left-passed right in
+    let ragged = length-refused _ _ _ (sizes (sized (read left))) (left-in left) (right-in right) (c .before .if5 .taken) in
+    rw (c .refused5 .ensures) (sym (refused-before _ _ _ _ (omega arith) 3 _ ragged))
 
 run-requires : tie.Need-run-requires
 run-requires c κs =
-    let passed-right = c .before .before .before .before in
-    let right = passed-right .before in
-    let passed = right .before .before in
-    let left = passed .before in
-    let read = left .before .before in
-    let sized = read .before .before in
-    let sizes = sizes-right _ _ _ (sym (sized .before .sizes-wrong .ensures) ∙ sized .if2 .left) in
-    let first = rw (read .chips-in .ensures) at (sym (left .in-range .ensures) ∙ not-false _ (passed .if3 .left)) in
-    let second = rw (read .chips-in .ensures) at (sym (right .in-range2 .ensures) ∙ not-false _ (passed-right .if4 .left)) in
-    (records-fit _ _ (omega arith) first second (sizes .image), (sizes .space, sizes .short))
+    let right = c .before .before .before .before in
+    let left = left-passed right in
+    let fitting = sizes-right _ _ _ (sizes (sized (read left))) in
+    (records-fit _ _ (omega arith) (left-in left) (right-in right) (fitting .image), (fitting .space, fitting .short))
 
 returns-6 : tie.Need-returns-6
 returns-6 c =
     let ran = c .before .before .before .before .before .before in
     let whole = ran .before .before .before .before in
-    let passed-right = whole .before in
-    let right = passed-right .before in
-    let passed = right .before .before in
-    let left = passed .before in
-    let read = left .before .before in
-    let sized = read .before .before in
-    let sizes = sym (sized .before .sizes-wrong .ensures) ∙ sized .if2 .left in
-    let first = rw (read .chips-in .ensures) at (sym (left .in-range .ensures) ∙ not-false _ (passed .if3 .left)) in
-    let second = rw (read .chips-in .ensures) at (sym (right .in-range2 .ensures) ∙ not-false _ (passed-right .if4 .left)) in
-    ran .run .ensures ∙ sym (as-panel _ _ _ _ (omega arith) _ (records-run _ _ _ sizes first second (whole .if5 .left)))
+    let right = whole .before in
+    let left = left-passed right in
+    let run = records-run _ _ _ (sizes (sized (read left))) (left-in left) (right-in right) (whole .if5 .left) in
+    ran .run .ensures ∙ sym (as-panel _ _ _ _ (omega arith) _ run)
 
 pub replay-in-place-spec : {M : Type 1} → statement M
 replay-in-place-spec =

@@ -1,4 +1,4 @@
--- `trace::run` meets its contract. The invariant: resumed with the counts and answers so far, the records that are left end as the whole does.
+-- `trace::run` meets its contract: before each record, the replay resumed there with what is left ends as the whole does.
 use Prim.Native.Nat.{_-_}
 use native.Mathlib.Omega.{arith}
 use mathlib.Core.Bool.{_&&_, not}
@@ -21,51 +21,58 @@ Inv-loop chips₀ ram₀ trace answers₀ compared₀ differing₀ at₀ count c
 abbrev μ-loop : tie.MeasureT-loop
 μ-loop chips₀ ram₀ trace answers₀ compared₀ differing₀ at₀ count chips ram answers compared differing at = count - at
 
+-- the places of a turn: the step, from past it; the record read for it; the loop's head. And the start
+abbrev stepped : tie.After-struct-known Inv-loop μ-loop → tie.After-step-of-tested-records Inv-loop μ-loop
+stepped c = c .before .before .before .before .before
+
+abbrev read : tie.After-step-of-tested-records Inv-loop μ-loop → tie.After-record-in Inv-loop μ-loop
+read c = c .before .before .before
+
+abbrev head : tie.After-step-of-tested-records Inv-loop μ-loop → tie.At-loop Inv-loop μ-loop
+head c = read c .before .before .before
+
+abbrev start : tie.At-loop Inv-loop μ-loop → tie.Start Inv-loop μ-loop
+start c = c .before .before .before .before .before
+
 loop-holds : tie.Need-loop-holds Inv-loop μ-loop
 loop-holds c =
-    let start = c .before .before .before .before in
-    started _ _ _ _ (start .pre .0) (start .pre .1 .1) (start .pre .1 .0)
+    let given = c .before .before .before .before .pre in
+    started _ _ _ _ (given .0) (given .1 .1) (given .1 .0)
 
 returns : tie.Need-returns Inv-loop μ-loop
 returns c =
-    let step = c .before .before .before .before .before .before in
-    let read = step .before .before .before in
-    let loop = read .before .before .before in
-    let start = loop .before .before .before .before .before in
-    let state = loop .loop .inv in
+    let step = stepped (c .before) in
+    let state = head step .loop .inv in
     let given = step .step-of-tested-records .ensures in
-    settled-at _ (start .args .ram .now) _ _ _ _ _ _ _ _ (start .pre .0)
-    (fits-again state (omega arith) _ (read .record-in .ensures) _ _ _ given)
-    (refused-here state (omega arith) _ (read .record-in .ensures) _ _ _ given (c .if1 .taken))
+    settled-at
+    (start (head step) .pre .0)
+    (fits-again state (omega arith) (read step .record-in .ensures) given)
+    (refused-here state (omega arith) (read step .record-in .ensures) given (c .if1 .taken))
 
 slice-write-answers-2 : tie.Need-slice-write-answers-2 Inv-loop μ-loop
 slice-write-answers-2 c = simp length-set (omega arith)
 
 add-compared : tie.Need-add-compared Inv-loop μ-loop
 add-compared c =
-    let answer = c .before .before .before .before .before .before .before .step-of-tested-records .result in
+    let answer = stepped (c .before .before) .step-of-tested-records .result in
     omega (arith, at-most-one (isCompared (answer .kind)))
 
 add-differing : tie.Need-add-differing Inv-loop μ-loop
 add-differing c =
-    let step = c .before .before .before .before .before .before .before .before in
+    let step = stepped (c .before .before .before) in
     let answer = step .step-of-tested-records .result in
-    let bus = step .before .before .before .record-in .result in
-    omega (arith, at-most-one (isCompared (answer .kind) && not (eqb (answer .byte) (bus .byte))))
+    omega (arith, at-most-one (isCompared (answer .kind) && not (eqb (answer .byte) (read step .record-in .result .byte))))
 
 loop-again : tie.Need-loop-again Inv-loop μ-loop
 loop-again c =
-    let step = c .before .before .before .before .before .before .before .before in
-    let read = step .before .before .before in
-    let state = read .before .before .before .loop .inv in
-    accepted-here state (omega arith) _ (read .record-in .ensures) _ _ _ (step .step-of-tested-records .ensures) (omega arith) _ _
-    (c .before .compares .ensures) (c .differs .ensures)
+    let step = stepped (c .before .before .before) in
+    accepted-here (head step .loop .inv) (omega arith) (read step .record-in .ensures) (step .step-of-tested-records .ensures)
+    (omega arith) (c .before .compares .ensures) (c .differs .ensures)
 
 returns-2 : tie.Need-returns-2 Inv-loop μ-loop
 returns-2 c =
-    let start = c .before .before .before .before .before .before in
     let state = c .before .loop .inv in
-    settled-at _ (start .args .ram .now) _ _ _ _ _ _ _ _ (start .pre .0) (state .fits) (finished state (omega arith))
+    settled-at (start (c .before) .pre .0) (state .fits) (finished state (omega arith))
 
 pub run-spec : {M : Type 1} → statement M
 run-spec =

@@ -1,11 +1,28 @@
 -- `sed1520::bus::cycle` meets its contract: numbers 1, 2 and 4 to 6, then the action.
 use native.Mathlib.Omega.{arith}
-use mathlib.Core.Path.{sym, _∙_}
+use mathlib.Core.Path.{_≡_, sym, _∙_}
+use mathlib.Core.Bool.{true}
 use borrow.Author.Tests.{not-true, not-false}
+use Rattle.sed1520.specs.Chip.{inRange}
+use Rattle.sed1520.specs.RecordStep.{busRefusal}
 use Rattle.sed1520.proofs.StepCases.{asks, step-refused, step-action, cycle-length, cycle-range, cycle-step}
 use borrow.Author.Needs.{needs}
 use Rattle.sed1520.proofs.bus.cycle.Statement.{statement}
 use Rattle.sed1520.proofs.bus.cycle.Tie as tie
+
+-- the start, from past the test of the registers and past that of the bus record
+abbrev second : tie.Else2 → tie.Start
+second c = c .before .before .before .before
+
+abbrev third : tie.Else3 → tie.Start
+third c = second (c .before .before)
+
+-- what these tests showed
+within : (c : tie.Else2) → inRange (second c .args .chip) ≡ true
+within c = sym (c .before .in-range .ensures) ∙ not-false _ (c .if2 .left)
+
+not-refused : (c : tie.Else3) → busRefusal (third c .args .bus) ≡ 0
+not-refused c = sym (c .before .refusal .ensures) ∙ c .if3 .left
 
 returns : tie.Need-returns
 returns c = rw (c .refused .ensures) (sym (cycle-length _ _ _ (c .before .if1 .taken)))
@@ -17,24 +34,22 @@ returns-2 c =
 
 returns-3 : tie.Need-returns-3
 returns-3 c =
-    let told = c .before .before .refusal in
-    let range = c .before .before .before in
-    let within = sym (range .before .in-range .ensures) ∙ not-false _ (range .if2 .left) in
-    rw (c .refused3 .ensures, told .ensures)
-    (sym (cycle-step _ _ _ (omega arith) within ∙ step-refused _ _ _ (λ e. c .before .if3 .taken (told .ensures ∙ e))))
+    let test = c .before .before in
+    let told = test .refusal .ensures in
+    let refused = step-refused _ _ _ (λ e. c .before .if3 .taken (told ∙ e)) in
+    rw (c .refused3 .ensures, told) (sym (cycle-step _ _ _ (omega arith) (within (test .before)) ∙ refused))
 
 act-requires : tie.Need-act-requires
 act-requires c κs =
-    let asked = asks _ (sym (c .before .before .refusal .ensures) ∙ c .before .if3 .left) in
+    let asked = asks _ (not-refused (c .before)) in
     (asked .from, asked .to)
 
 returns-4 : tie.Need-returns-4
 returns-4 c =
-    let told = c .before .before .before .before .before .refusal in
-    let range = c .before .before .before .before .before .before in
-    let within = sym (range .before .in-range .ensures) ∙ not-false _ (range .if2 .left) in
-    rw (c .before .before .act .ensures)
-    (sym (cycle-step _ _ _ (omega arith) within ∙ step-action _ _ _ (sym (told .ensures) ∙ c .before .before .before .before .if3 .left)))
+    let acted = c .before .before in
+    let passed = acted .before .before in
+    rw (acted .act .ensures)
+    (sym (cycle-step _ _ _ (omega arith) (within (passed .before .before)) ∙ step-action _ _ _ (not-refused passed)))
 
 pub cycle-spec : {M : Type 1} → statement M
 cycle-spec =

@@ -15,8 +15,8 @@ part-records-end c =
 
 returns : tie.Need-returns
 returns c =
-    let at = c .before .before .before .before .before .before .args in
-    both-written 12 _ _ _ _ _ (record-length (at .left)) refl (c .before .before .before .before .chip-out .ensures) (c .before .chip-out2 .ensures)
+    let left = c .before .before .before .before in
+    both-written 12 _ _ _ _ _ (record-length (left .before .before .args .left)) refl (left .chip-out .ensures) (c .before .chip-out2 .ensures)
 
 pub chips-bytes-spec : {M : Type 1} → statement M
 chips-bytes-spec =

@@ -1,7 +1,9 @@
 -- `sed1520::chip_record::chips_in` meets its contract, by the length.
+use Prim.Native.Nat.{ℕ}
 use native.Mathlib.Omega.{arith}
-use mathlib.Core.Path.{sym}
-use lib.ListN.{length}
+use mathlib.Core.Path.{_≡_, sym}
+use mathlib.Core.List.{List}
+use lib.ListN.{length, take}
 use lib.Seq.{length-take-le}
 use borrow.Author.Tests.{eq-eqb, ne-eqb}
 use Rattle.sed1520.specs.ChipRecord.{chipsIn}
@@ -14,17 +16,19 @@ returns : tie.Need-returns
 unfolding chipsIn
 returns c = rw (ne-eqb _ 24 (c .before .before .if1 .taken), c .before .no-chip .ensures, c .no-chip2 .ensures)
 
-slice-aggregate-chip-in : tie.Need-slice-aggregate-chip-in
-slice-aggregate-chip-in c = sym (length-take-le 12 (c .before .before .before .args .records .now) (omega arith))
+-- the records, past the test of their length, and that the left one has 12 bytes
+abbrev records : tie.Else1 → List ℕ
+records c = c .before .before .args .records .now
 
-chip-in-requires : tie.Need-chip-in-requires
-chip-in-requires c κs = length-take-le 12 (c .before .before .before .args .records .now) (omega arith)
+left-length : (c : tie.After-chip-in-arg) → length (take 12 (records (c .before))) ≡ 12
+left-length c = length-take-le 12 (records (c .before)) (omega arith)
 
 returns-2 : tie.Need-returns-2
 unfolding chipsIn
 returns-2 c =
-    let records = c .before .before .before .before .before .before .args .records .now in
-    rw (eq-eqb (length records) 24 (omega arith), c .before .before .chip-in .ensures, c .chip-in2 .ensures, rest records 12)
+    let left = c .before .before in
+    let both = records (left .before .before) in
+    rw (eq-eqb (length both) 24 (omega arith), left .chip-in .ensures, c .chip-in2 .ensures, rest both 12)
 
 pub chips-in-spec : {M : Type 1} → statement M
 chips-in-spec =
@@ -33,8 +37,8 @@ chips-in-spec =
     (λ c κs. search needs)
     (λ c κs. search needs)
     returns
-    slice-aggregate-chip-in
-    chip-in-requires
+    (λ c. sym (left-length c))
+    (λ c κs. left-length c)
     (λ c. search needs)
     (λ c. search needs)
     (λ c. search needs)

@@ -1,4 +1,4 @@
--- `sed1520::chip_record::latch_of` meets its contract.
+-- `sed1520::chip_record::latch_of` meets its contract: mark 1 is a fresh latch, any other a stale one.
 use native.Mathlib.Omega.{arith}
 use borrow.Author.Tests.{eq-eqb, ne-eqb}
 use Rattle.sed1520.proofs.chip_record.latch_of.Statement.{statement}

@@ -1,4 +1,4 @@
--- `sed1520::chip_record::no_chip` meets its contract.
+-- `sed1520::chip_record::no_chip` meets its contract: the fresh chip with a page out of range.
 use borrow.Author.Needs.{needs}
 use Rattle.sed1520.proofs.chip_record.no_chip.Statement.{statement}
 use Rattle.sed1520.proofs.chip_record.no_chip.Tie as tie

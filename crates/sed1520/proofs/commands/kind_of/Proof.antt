@@ -25,9 +25,13 @@ above-start-lines b l h e0 e2 ee =
     (tested (ltb b 0xEE)))
     (tested (ltb b 0xE2))
 
+-- past all tests of ranges, the arm of all other bytes
+abbrev others-at : tie.Else13 → tie.At-match-rest
+others-at c = c .before .before .before .before .before .before .before
+
 returns-17 : tie.Need-returns-17
 returns-17 c =
-    let others = c .before .before .before .before .before .before .before .match .rest in
+    let others = others-at c .match .rest in
     sym (above-start-lines _ (omega arith) (omega arith) (others .0 .0 .1) (others .0 .1) (others .1))
 
 pub kind-of-spec : {M : Type 1} → statement M

@@ -1,14 +1,13 @@
 -- `sed1520::memory::load` meets its contract: past its end a list reads as 0.
-use Prim.Native.Nat.{ℕ}
 use native.Mathlib.Omega.{arith}
-use mathlib.Core.Path.{ap, sym}
-use lib.ListN.{List·getD-eq-default, getD}
+use mathlib.Core.Path.{sym}
+use lib.ListN.{List·getD-eq-default}
 use borrow.Author.Needs.{needs}
 use Rattle.sed1520.proofs.memory.load.Statement.{statement}
 use Rattle.sed1520.proofs.memory.load.Tie as tie
 
 returns : tie.Need-returns
-returns c = ap (λ (i : ℕ). getD (c .before .before .before .before .args .ram .now) i 0) (c .before .before .index .ensures)
+returns c = rw (c .before .before .index .ensures)
 
 returns-2 : tie.Need-returns-2
 returns-2 c = sym (List·getD-eq-default (c .before .before .before .args .ram .now) 0 (omega arith))

@@ -1,9 +1,6 @@
 -- `sed1520::record_step::read_data` meets its contract: of the record the column and the read latch are stored.
 use mathlib.Core.Path.{ap, _∙_}
-use Rattle.sed1520.specs.Cycle.{dataRead}
-use Rattle.sed1520.specs.RecordStep.{bare, readBytes}
-use Rattle.sed1520.specs.declared.actions.Answer.{Answer}
-use Rattle.sed1520.specs.declared.registers.Chip.{Chip}
+use Rattle.sed1520.specs.RecordStep.{bare}
 use borrow.Author.Needs.{needs}
 use Rattle.sed1520.proofs.record_step.read_data.Statement.{statement}
 use Rattle.sed1520.proofs.record_step.read_data.Tie as tie
@@ -13,9 +10,8 @@ returns c =
     let marked = c .before .before in
     let done = marked .before .before in
     let read = done .before in
-    let at = read .before .before .before .before .args in
-    let told = done .data-read .ensures ∙ ap (λ (k : Chip). dataRead k (at .ram .now)) (read .registers-in .ensures) in
-    (c .bare .ensures ∙ ap bare told, rw (marked .mark .ensures, c .before .byte .ensures) (ap (λ (a : Answer). readBytes (at .bytes .now) (a .chip)) told))
+    let told = rw (read .registers-in .ensures) at (done .data-read .ensures) in
+    (c .bare .ensures ∙ ap bare told, rw (marked .mark .ensures, c .before .byte .ensures, ← told))
 
 pub read-data-spec : {M : Type 1} → statement M
 read-data-spec =

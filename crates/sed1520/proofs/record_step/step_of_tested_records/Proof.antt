@@ -48,7 +48,8 @@ returns-4 c =
     let image = done .before .before .before in
     let records = image .before in
     let passed = records .before in
-    on-parts _ _ _ (omega arith) (omega arith) (sym (passed .before .refusal .ensures) ∙ passed .if3 .left) _ _ (records .start-of .ensures) (image .start-of2 .ensures) _ _ _ (done .act .ensures)
+    let not-refused = sym (passed .before .refusal .ensures) ∙ passed .if3 .left in
+    on-parts _ _ _ (omega arith) (omega arith) not-refused _ _ (records .start-of .ensures) (image .start-of2 .ensures) _ _ _ (done .act .ensures)
 
 pub step-of-tested-records-spec : {M : Type 1} → statement M
 step-of-tested-records-spec =

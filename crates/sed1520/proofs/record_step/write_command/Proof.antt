@@ -1,17 +1,22 @@
 -- `sed1520::record_step::write_command` meets its contract: the whole record is stored, or nothing where the command is refused.
-use mathlib.Core.Path.{ap, _∙_}
+use mathlib.Core.Path.{_≡_, ap, _∙_}
 use borrow.Author.Tests.{eq-eqb, ne-eqb}
+use Rattle.sed1520.specs.ChipRecord.{registersIn}
 use Rattle.sed1520.specs.Cycle.{commandWrite}
 use Rattle.sed1520.specs.RecordStep.{bare}
 use borrow.Author.Needs.{needs}
 use Rattle.sed1520.proofs.record_step.write_command.Statement.{statement}
 use Rattle.sed1520.proofs.record_step.write_command.Tie as tie
 
+-- the answer is that of the command on the record's registers
+answered : (c : tie.After-command)
+    → let at = c .before .before .before .before .args in c .command .result ≡ commandWrite (at .byte) (registersIn (at .bytes .now))
+answered c = rw (c .before .registers-in .ensures) at (c .command .ensures)
+
 returns : tie.Need-returns
 returns c =
     let done = c .before .before .before in
-    let read = done .before in
-    let told = done .command .ensures ∙ ap (commandWrite (read .before .before .before .args .byte)) (read .registers-in .ensures) in
+    let told = answered done in
     (c .bare .ensures ∙ ap bare told, rw (← told, ne-eqb (done .command .result .number) 0 (c .before .if1 .taken)))
 
 returns-2 : tie.Need-returns-2
@@ -19,8 +24,7 @@ returns-2 c =
     let stored = c .before .before .before in
     let passed = stored .before .before .before in
     let done = passed .before .before in
-    let read = done .before in
-    let told = done .command .ensures ∙ ap (commandWrite (read .before .before .before .args .byte)) (read .registers-in .ensures) in
+    let told = answered done in
     (c .bare2 .ensures ∙ ap bare told, rw (← told, eq-eqb (done .command .result .number) 0 (passed .if1 .left)) (stored .chip-out .ensures))
 
 pub write-command-spec : {M : Type 1} → statement M

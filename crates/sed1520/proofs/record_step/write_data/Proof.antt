@@ -9,7 +9,8 @@ returns : tie.Need-returns
 returns c =
     let done = c .before .before .before .before in
     let read = done .before .before in
-    rw (c .bare .ensures, ← read .registers-in .ensures) (ap (written (read .before .before .before .before .args .bytes .now)) (done .data-write .ensures))
+    let at = read .before .before .before .before .args in
+    rw (c .bare .ensures, ← read .registers-in .ensures) (ap (written (at .bytes .now)) (done .data-write .ensures))
 
 pub write-data-spec : {M : Type 1} → statement M
 write-data-spec =

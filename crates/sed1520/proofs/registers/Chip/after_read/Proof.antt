@@ -7,19 +7,17 @@ use Rattle.sed1520.proofs.registers.Chip.after_read.Statement.{statemen
 use Rattle.sed1520.proofs.registers.Chip.after_read.Tie as tie
 
 returns : tie.Need-returns
-returns c =
-    let at = c .before .before .before .before .args in
-    rw (c .staled .ensures) (sym (after-read-stopped (at .self) (at .ram .now) (omega arith)))
+returns c = rw (c .staled .ensures) (sym (after-read-stopped _ _ (omega arith)))
 
 returns-2 : tie.Need-returns-2
 returns-2 c =
-    let at = c .before .before .before .before .before .before .args in
-    rw (c .with-latch .ensures, c .before .before .load .ensures) (sym (after-read-kept (at .self) (at .ram .now) (omega arith) (c .before .if2 .taken)))
+    rw (c .with-latch .ensures, c .before .before .load .ensures)
+    (sym (after-read-kept _ _ (omega arith) (c .before .if2 .taken)))
 
 returns-3 : tie.Need-returns-3
 returns-3 c =
-    let at = c .before .before .before .before .before .before .before .args in
-    rw (c .with-latch2 .ensures, c .before .before .before .load .ensures) (sym (after-read-counted (at .self) (at .ram .now) (omega arith) (c .before .before .if2 .left)))
+    rw (c .with-latch2 .ensures, c .before .before .before .load .ensures)
+    (sym (after-read-counted _ _ (omega arith) (c .before .before .if2 .left)))
 
 pub after-read-spec : {M : Type 1} → statement M
 after-read-spec =

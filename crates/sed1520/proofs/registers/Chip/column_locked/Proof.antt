@@ -6,10 +6,10 @@ use Rattle.sed1520.proofs.registers.Chip.column_locked.Statement.{state
 use Rattle.sed1520.proofs.registers.Chip.column_locked.Tie as tie
 
 returns : tie.Need-returns
-returns c = sym (locked-below (c .before .args .byte) (c .before .args .self) (omega arith))
+returns c = let at = c .before .args in sym (locked-below (at .byte) (at .self) (omega arith))
 
 returns-2 : tie.Need-returns-2
-returns-2 c = sym (unlocked-above (c .before .args .byte) (c .before .args .self) (omega arith))
+returns-2 c = let at = c .before .args in sym (unlocked-above (at .byte) (at .self) (omega arith))
 
 pub column-locked-spec : {M : Type 1} → statement M
 column-locked-spec = tie.close (tie.spec returns returns-2)

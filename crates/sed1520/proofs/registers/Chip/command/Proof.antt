@@ -1,27 +1,33 @@
 -- `sed1520::registers::Chip::command` meets its contract: a byte that is no command, a locked column set, and an executed command.
-use mathlib.Core.Path.{sym, _∙_}
+use mathlib.Core.Path.{_≡_, sym, _∙_}
+use mathlib.Core.Option.{some}
 use borrow.Author.Needs.{needs}
+use Rattle.sed1520.specs.Command.{decodeOf}
 use Rattle.sed1520.proofs.ActionCases.{command-unknown, command-locked, command-executed, known-command, no-command}
 use Rattle.sed1520.proofs.registers.Chip.command.Statement.{statement}
 use Rattle.sed1520.proofs.registers.Chip.command.Tie as tie
 
+-- the byte is decoded to the command
+known : (c : tie.After-command) → decodeOf (c .before .before .before .args .byte) .value ≡ some (c .command .given .0 .0)
+known c = known-command _ _ _ (c .before .before .decode .ensures) (c .command .given .1)
+
 returns : tie.Need-returns
 returns c =
-    let at = c .before .before .before .before .args in
-    rw (c .refused .ensures)
-    (sym (command-unknown (at .byte) (at .self) (no-command _ (at .byte) _ (c .before .before .before .decode .ensures) (c .before .enum-told .given .1))))
+    let told = c .before in
+    rw (c .refused .ensures) (sym (command-unknown _ _ (no-command _ _ _ (told .before .before .decode .ensures) (told .enum-told .given .1))))
 
 returns-2 : tie.Need-returns-2
 returns-2 c =
-    let at = c .before .before .before .before .before .before .before .args in
+    let lock = c .before .before in
     rw (c .refused2 .ensures)
-    (sym (command-locked (at .byte) (at .self) _ (known-command _ (at .byte) _ (c .before .before .before .before .before .before .decode .ensures) (c .before .before .before .before .command .given .1)) (sym (c .before .before .column-locked .ensures) ∙ c .before .if1 .taken)))
+    (sym (command-locked _ _ _ (known (lock .before .before)) (sym (lock .column-locked .ensures) ∙ c .before .if1 .taken)))
 
 returns-3 : tie.Need-returns-3
 returns-3 c =
-    let at = c .before .before .before .before .before .before .before .before .args in
+    let passed = c .before .before in
+    let lock = passed .before in
     rw (c .done .ensures, c .before .execute .ensures)
-    (sym (command-executed (at .byte) (at .self) _ (known-command _ (at .byte) _ (c .before .before .before .before .before .before .before .decode .ensures) (c .before .before .before .before .before .command .given .1)) (sym (c .before .before .before .column-locked .ensures) ∙ c .before .before .if1 .left)))
+    (sym (command-executed _ _ _ (known (lock .before .before)) (sym (lock .column-locked .ensures) ∙ passed .if1 .left)))
 
 pub command-spec : {M : Type 1} → statement M
 command-spec =

@@ -7,14 +7,12 @@ use Rattle.sed1520.proofs.registers.Chip.data_write.Statement.{statemen
 use Rattle.sed1520.proofs.registers.Chip.data_write.Tie as tie
 
 returns : tie.Need-returns
-returns c =
-    let at = c .before .before .before .before .args in
-    rw (c .done .ensures) (sym (data-write-stopped (at .self) (at .ram .now) (omega arith) (at .byte)))
+returns c = rw (c .done .ensures) (sym (data-write-stopped _ _ (omega arith) _))
 
 returns-2 : tie.Need-returns-2
 returns-2 c =
-    let at = c .before .before .before .before .before .before .before .before .before .args in
-    rw (c .done2 .ensures, c .before .before .before .before .store .ensures) (sym (data-write-stored (at .self) (at .ram .now) (omega arith) (at .byte)))
+    let stored = c .before .before .before .before in
+    rw (c .done2 .ensures, stored .store .ensures) (sym (data-write-stored _ _ (omega arith) _))
 
 pub data-write-spec : {M : Type 1} → statement M
 data-write-spec =

@@ -4,7 +4,6 @@ use Rattle.sed1520.specs.Chip.{fresh}
 use Rattle.sed1520.proofs.registers.Chip.fresh.Statement.{statement}
 use Rattle.sed1520.proofs.registers.Chip.fresh.Tie as tie
 
--- src/registers.rt:69:5
 returns : tie.Need-returns
 unfolding fresh
 returns c = refl

@@ -5,10 +5,10 @@ use Rattle.sed1520.proofs.registers.Chip.modify_begun.Statement.{statem
 use Rattle.sed1520.proofs.registers.Chip.modify_begun.Tie as tie
 
 returns : tie.Need-returns
-returns c = sym (modify-already (c .before .args .self) (c .if1 .taken))
+returns c = sym (modify-already _ (c .if1 .taken))
 
 returns-2 : tie.Need-returns-2
-returns-2 c = sym (begin-modify (c .before .args .self) (c .if1 .left))
+returns-2 c = sym (begin-modify _ (c .if1 .left))
 
 pub modify-begun-spec : {M : Type 1} → statement M
 modify-begun-spec = tie.close (tie.spec returns returns-2)

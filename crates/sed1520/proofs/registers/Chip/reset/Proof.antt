@@ -1,4 +1,4 @@
--- `sed1520::registers::Chip::reset` meets its contract.
+-- `sed1520::registers::Chip::reset` meets its contract: start line, column and page 0, the latch stale.
 use borrow.Author.Needs.{needs}
 use Rattle.sed1520.specs.Cycle.{execute}
 use Rattle.sed1520.proofs.registers.Chip.reset.Statement.{statement}

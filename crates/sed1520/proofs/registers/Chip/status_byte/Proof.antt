@@ -5,4 +5,10 @@ use Rattle.sed1520.proofs.registers.Chip.status_byte.Tie as tie
 
 pub status-byte-spec : {M : Type 1} → statement M
 unfolding statusOf
-status-byte-spec = tie.close (tie.spec (λ c. rw (c .before .if1 .taken, c .if2 .taken)) (λ c. rw (c .before .if1 .taken, c .if2 .left)) (λ c. rw (c .before .if1 .left, c .if3 .taken)) (λ c. rw (c .before .if1 .left, c .if3 .left)))
+status-byte-spec =
+    tie.close
+    (tie.spec
+    (λ c. rw (c .before .if1 .taken, c .if2 .taken))
+    (λ c. rw (c .before .if1 .taken, c .if2 .left))
+    (λ c. rw (c .before .if1 .left, c .if3 .taken))
+    (λ c. rw (c .before .if1 .left, c .if3 .left)))
