@@ -20,9 +20,9 @@ unfolding fresh pixel
 frame-examples =
     record {
       chip = chip-examples;
-      p5-static = rw (commanded-chips .static-off);
-      p5-dark = λ p chip e. half-all p chip 0 (e ∙ commanded-chips .static-off) (λ n r. segment-dark _ (ramAt p chip) n r refl);
-      p5-lit = λ p chip e. half-all p chip 255 (e ∙ commanded-chips .static-on) (λ n r. segment-lit _ (ramAt p chip) n r refl refl);
+      p5-static = rw (commanded-chips .static-display-off);
+      p5-dark = λ p chip e. half-all p chip 0 (e ∙ commanded-chips .static-display-off) (λ n r. segment-dark _ (ramAt p chip) n r refl);
+      p5-lit = λ p chip e. half-all p chip 255 (e ∙ commanded-chips .static-display-on) (λ n r. segment-lit _ (ramAt p chip) n r refl refl);
       p8-row-0 = λ ram n. rw (commanded-chips .line-31);
       p8-row-1 = λ ram n. rw (commanded-chips .line-31);
       p9-forward = rw (commanded-chips .forward);

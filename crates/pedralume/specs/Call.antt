@@ -50,7 +50,7 @@ bufferCallOf answer buffer = record { answer = answer; buffer = buffer }
 abbrev pub answered : List ℕ → ℕ → ℕ → BufferCall
 answered buffer number place = bufferCallOf (packed number place 0 0) buffer
 
--- number 1 where the chip records are not 24 bytes, then the call on their chips, which refuses all else by number
+-- number 1 where the chip records are not 24 bytes, then the call on their chips, with its own number 1 before number 2
 unfoldable pub onChips : List ℕ → List ℕ → (Chip → Chip → BufferCall) → BufferCall
 onChips chips buffer call = if (not (eqb (length chips) 24)) (answered buffer 1 0) (call (chipsIn chips .left) (chipsIn chips .right))
 

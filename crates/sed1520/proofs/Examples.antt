@@ -29,4 +29,4 @@ chip-examples =
 
 pub commanded-chips : CommandedChips
 unfolding commanded ranFrom cycleOf stepOf actionOf commandWrite execute decodeOf among inRange fresh
-commanded-chips = record { static-off = refl; static-on = refl; line-31 = refl; forward = refl; reverse = refl }
+commanded-chips = record { static-display-off = refl; static-display-on = refl; line-31 = refl; forward = refl; reverse = refl }

@@ -7,9 +7,9 @@ use lib.Dec.{eqb}
 use lib.ListN.{length, take, drop}
 use borrow.Author.Tests.{eq-eqb, ne-eqb}
 use Rattle.sed1520.specs.ChipRecord.{registersIn}
-use Rattle.sed1520.specs.Cycle.{commandWrite, dataWrite, dataRead, statusRead}
+use Rattle.sed1520.specs.Cycle.{busRefusal, commandWrite, dataWrite, dataRead, statusRead}
 use Rattle.sed1520.specs.RecordStep.{bare, bareRefusal, acted, readBytes, commandBytes, written, actionOn}
-use Rattle.sed1520.specs.RecordStep.{busRefusal, startOf, partAt, putBack, stepRecords}
+use Rattle.sed1520.specs.RecordStep.{startOf, partAt, putBack, stepRecords}
 use Rattle.sed1520.specs.declared.bus.Record.{Record}
 use Rattle.sed1520.specs.declared.record_step.BareAnswer.{BareAnswer}
 use Rattle.sed1520.proofs.TwoParts.{part-lent, part-back}

@@ -11,20 +11,20 @@ use lib.ListN.{length, take, drop}
 use borrow.Author.Tests.{eqb-true, eqb-false}
 use Rattle.sed1520.specs.Choice.{if}
 use Rattle.sed1520.specs.Chip.{inRange}
-use Rattle.sed1520.specs.ChipRecord.{chipBytes, registersIn, marksRight, recordRight, chipIn, panelIn}
+use Rattle.sed1520.specs.ChipRecord.{chipBytes, registersIn, marksRight, recordRight, chipIn, panelIn, RecordsFit}
 use Rattle.sed1520.specs.Command.{decodeOf}
-use Rattle.sed1520.specs.Cycle.{Outcome, columnLocked, executed, commandWrite, dataWrite, afterRead, dataRead, actionOf, stepOf}
+use Rattle.sed1520.specs.Cycle.{busRefusal, Outcome, columnLocked, executed, commandWrite, dataWrite, afterRead, dataRead, actionOf, stepOf}
 use Rattle.sed1520.specs.Panel.{panelOf, chipAt, put, outcomeOf, stepped}
-use Rattle.sed1520.specs.Promises.{RecordsFit, EveryRecordStep}
+use Rattle.sed1520.specs.Promises.{EveryRecordStep}
 use Rattle.sed1520.specs.RecordStep.{bare, Acted, acted, writeBytes, readBytes, commandBytes, actionOn}
-use Rattle.sed1520.specs.RecordStep.{busRefusal, partAt, partPut, putBack, stepRecords}
+use Rattle.sed1520.specs.RecordStep.{partAt, partPut, putBack, stepRecords}
 use Rattle.sed1520.specs.declared.actions.Answer.{Answer}
 use Rattle.sed1520.specs.declared.registers.Chip.{Chip}
 use Rattle.sed1520.specs.declared.commands.Command.{Command}
 use Rattle.sed1520.specs.declared.bus.Record.{Record}
 use Rattle.sed1520.proofs.CycleKeeps.{cycle-keeps}
 use Rattle.sed1520.proofs.RecordStepCases.{on-write, on-status, on-read, on-command, bus-wrong, bus-right}
-use Rattle.sed1520.proofs.RecordsUndo.{record-length, read-back, marked-in, written-back, there, whole, two-chips}
+use Rattle.sed1520.proofs.RecordsUndo.{record-length, read-back, marked-in, written-back, there, chip-passes, two-chips}
 use Rattle.sed1520.proofs.StepCases.{action-command, action-data-write, action-status, action-data-read}
 use Rattle.sed1520.proofs.StepCases.{asks, step-action, step-refused, cycle-step}
 use Rattle.sed1520.proofs.Tests.{tested, both, when}
@@ -163,8 +163,8 @@ module _ (chips ram : List ℕ) (k : ℕ) (next : Chip) (bytes : List ℕ) (fit 
   put-fit range half =
       record {
         records = put-chips;
-        left = rw front (when (λ (b : List ℕ). recordRight b ≡ true) (eqb k 0) (λ _. whole next ∙ range) (λ _. fit .left));
-        right = rw rear (when (λ (b : List ℕ). recordRight b ≡ true) (eqb k 0) (λ _. fit .right) (λ _. whole next ∙ range));
+        left = rw front (when (λ (b : List ℕ). recordRight b ≡ true) (eqb k 0) (λ _. chip-passes next ∙ range) (λ _. fit .left));
+        right = rw rear (when (λ (b : List ℕ). recordRight b ≡ true) (eqb k 0) (λ _. fit .right) (λ _. chip-passes next ∙ range));
         image = put-length 320 k ram (fit .image) bytes half;
       }
 

@@ -107,8 +107,8 @@ pub passes : (b : List ℕ) → inRange (chipIn b) ≡ recordRight b
 unfolding chipIn inRange
 passes b = when (λ (c : Chip). inRange c ≡ recordRight b) (marksRight b) (λ m. rw m) (λ m. rw m)
 
-pub whole : (c : Chip) → recordRight (chipBytes c) ≡ inRange c
-whole c = rw (marked c, read-back c)
+pub chip-passes : (c : Chip) → recordRight (chipBytes c) ≡ inRange c
+chip-passes c = rw (marked c, read-back c)
 
 -- two records
 pub two-chips : (chips : List ℕ) → length chips ≡ 24 → chipsIn chips ≡ chipsOf (chipIn (take 12 chips)) (chipIn (drop 12 chips))
@@ -145,9 +145,9 @@ two-back chips h l r =
 
 pub two-pass : (left right : Chip)
     → (recordRight (take 12 (chipsBytes left right)) && recordRight (drop 12 (chipsBytes left right))) ≡ (inRange left && inRange right)
-two-pass left right = rw (two-front left right, two-rear left right) (rw (whole left, whole right))
+two-pass left right = rw (two-front left right, two-rear left right) (rw (chip-passes left, chip-passes right))
 
 pub records-undo : RecordsUndo
 unfolding chipBytes fresh
 records-undo =
-    record { there = there; back = back; passes = passes; whole = whole; two-there = two-there; two-back = two-back; fresh-record = refl }
+    record { there = there; back = back; passes = passes; chip-passes = chip-passes; two-there = two-there; two-back = two-back; fresh-record = refl }

@@ -9,10 +9,9 @@ use lib.Dec.{leb, eqb}
 use lib.ListN.{length}
 use borrow.Author.Tests.{le-leb, lt-leb, leb-true, leb-false, eq-eqb, ne-eqb, eqb-false}
 use Rattle.sed1520.specs.Choice.{if}
-use Rattle.sed1520.specs.RecordStep.{busRefusal}
 use Rattle.sed1520.proofs.Tests.{tested, neither}
 use Rattle.sed1520.specs.Chip.{inRange}
-use Rattle.sed1520.specs.Cycle.{Outcome, outcome, refusal, commandWrite, dataWrite, dataRead, statusRead}
+use Rattle.sed1520.specs.Cycle.{busRefusal, Outcome, outcome, refusal, commandWrite, dataWrite, dataRead, statusRead}
 use Rattle.sed1520.specs.Cycle.{readLine, writeLine, actionOf, stepOf, cycleOf}
 use Rattle.sed1520.specs.declared.registers.Chip.{Chip}
 use Rattle.sed1520.specs.declared.bus.Record.{Record}

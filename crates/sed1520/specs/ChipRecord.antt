@@ -1,7 +1,8 @@
 -- A chip as the C side has it: a record of 12 bytes, no header. Display, static, duty (1 = 1/32), ADC (1 = reverse), read-modify-write,
 -- page, start line, column, saved column, the read latch's mark (1 = fresh) and byte (document 01: holder mark, holder byte), 0.
 use Prim.Native.Nat.{ℕ}
-use mathlib.Core.Bool.{Bool, _&&_}
+use mathlib.Core.Path.{_≡_}
+use mathlib.Core.Bool.{Bool, true, _&&_}
 use mathlib.Core.List.{List, [], _∷_, _++_}
 use lib.Dec.{ltb, eqb}
 use lib.ListN.{length, getD, take, drop}
@@ -67,7 +68,7 @@ marksRight b =
     && (ltb (getD b 9 0) 2
     && eqb (getD b 11 0) 0)))))
 
--- number 2 lets the record pass
+-- number 2 lets a record of 12 bytes pass
 abbrev pub recordRight : List ℕ → Bool
 recordRight b = marksRight b && inRange (registersIn b)
 
@@ -90,3 +91,10 @@ chipsIn chips = if (eqb (length chips) 24) (chipsOf (chipIn (take 12 chips)) (ch
 -- the panel of two records and an image
 abbrev pub panelIn : List ℕ → List ℕ → Panel
 panelIn chips ram = panelOf (chipsIn chips .left) (chipsIn chips .right) ram
+
+-- what a step over records and the replay's loop ask: two chip records that number 2 lets pass, and the whole image
+pub record RecordsFit (chips ram : List ℕ) : Type 0 where
+  pub records : length chips ≡ 24
+  pub left : recordRight (take 12 chips) ≡ true
+  pub right : recordRight (drop 12 chips) ≡ true
+  pub image : length ram ≡ 640

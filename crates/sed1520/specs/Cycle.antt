@@ -111,6 +111,14 @@ actionOf lines b c ram =
     (if (eqb (addressLine lines) 0) (outcome (commandWrite b c) ram) (dataWrite b c ram))
     (if (eqb (addressLine lines) 0) (outcome (statusRead c) ram) (outcome (dataRead c ram) ram)))
 
+-- the number, 4 to 6, by which a bus record is refused whatever the chip holds, or 0
+unfoldable pub busRefusal : Record → ℕ
+busRefusal r =
+    if (leb 8 (r .lines) || not (eqb (r .spare) 0)) 4
+    (if (leb 2 (r .chip)) 5
+    (if (eqb (readLine (r .lines)) (writeLine (r .lines))) 6
+    0))
+
 -- a cycle past numbers 1 and 2: numbers 4 and 5, then the action
 unfoldable pub stepOf : Record → Chip → List ℕ → Outcome
 stepOf r c ram =

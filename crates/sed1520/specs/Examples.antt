@@ -83,8 +83,8 @@ pub record ChipExamples : Type 0 where
 
 -- the chips that the frame's examples begin at
 pub record CommandedChips : Type 0 where
-  pub static-off : commanded 0xAE 0xA5 ≡ withStatic true fresh
-  pub static-on : commanded 0xAF 0xA5 ≡ withStatic true (withDisplay true fresh)
+  pub static-display-off : commanded 0xAE 0xA5 ≡ withStatic true fresh
+  pub static-display-on : commanded 0xAF 0xA5 ≡ withStatic true (withDisplay true fresh)
   pub line-31 : commanded 0xAF 0xDF ≡ withStartLine 31 (withDisplay true fresh)
   pub forward : commanded 0xAF 0xA0 ≡ withDisplay true fresh
   pub reverse : commanded 0xAF 0xA1 ≡ withReverse true (withDisplay true fresh)

@@ -7,7 +7,7 @@ use lib.Dec.{eqb}
 use lib.ListN.{length, take, drop}
 use Rattle.sed1520.specs.Choice.{if}
 use Rattle.sed1520.specs.Chip.{inRange, fresh}
-use Rattle.sed1520.specs.ChipRecord.{chipBytes, chipsBytes, marksRight, recordRight, chipIn, chipsOf, chipsIn, panelIn}
+use Rattle.sed1520.specs.ChipRecord.{chipBytes, chipsBytes, marksRight, recordRight, chipIn, chipsOf, chipsIn, panelIn, RecordsFit}
 use Rattle.sed1520.specs.Command.{first, count, told, notTold, decodeOf, encodeOf}
 use Rattle.sed1520.specs.Cycle.{Outcome, outcome, refusal, stepOf, cycleOf}
 use Rattle.sed1520.specs.Panel.{Panel, chipAt, ramAt, outcomeOf, stepped}
@@ -70,25 +70,18 @@ pub record Apart (p : Panel) (r : Record) : Type 0 where
 abbrev pub EveryRecordApart : Type 0
 EveryRecordApart = (p : Panel) → length (p .ram) ≡ 640 → (r : Record) → Apart p r
 
--- a chip and its record: the record of a chip is read back as that chip, the chip of a record that passes is written back as that record,
--- a record passes number 2 exactly when its chip does, and a chip's record when the chip does; the same of two records; the record of the
--- fresh chip
+-- a chip and its record: the record of a chip is read back as that chip; the chip of a record whose flags, mark and last byte are right is
+-- written back as that record; a record passes number 2 exactly when its chip does, and a chip's record when the chip does; each way undoes
+-- the other for two records that pass; the record of the fresh chip
 pub record RecordsUndo : Type 0 where
   pub there : (c : Chip) → chipIn (chipBytes c) ≡ c
   pub back : (b : List ℕ) → length b ≡ 12 → marksRight b ≡ true → chipBytes (chipIn b) ≡ b
   pub passes : (b : List ℕ) → inRange (chipIn b) ≡ recordRight b
-  pub whole : (c : Chip) → recordRight (chipBytes c) ≡ inRange c
+  pub chip-passes : (c : Chip) → recordRight (chipBytes c) ≡ inRange c
   pub two-there : (left right : Chip) → chipsIn (chipsBytes left right) ≡ chipsOf left right
   pub two-back : (chips : List ℕ) → length chips ≡ 24 → recordRight (take 12 chips) ≡ true → recordRight (drop 12 chips) ≡ true
       → chipsBytes (chipsIn chips .left) (chipsIn chips .right) ≡ chips
   pub fresh-record : chipBytes fresh ≡ 0 ∷ 0 ∷ 1 ∷ 0 ∷ 0 ∷ 0 ∷ 0 ∷ 0 ∷ 0 ∷ 0 ∷ 0 ∷ 0 ∷ []
-
--- two chip records that number 2 lets pass, and the whole image
-pub record RecordsFit (chips ram : List ℕ) : Type 0 where
-  pub records : length chips ≡ 24
-  pub left : recordRight (take 12 chips) ≡ true
-  pub right : recordRight (drop 12 chips) ≡ true
-  pub image : length ram ≡ 640
 
 -- a step over records is the cycle of the chip that the bus record names: its answer, the panel after it, and records that pass again
 pub record StepsPanel (r : Record) (chips ram : List ℕ) : Type 0 where

@@ -4,12 +4,12 @@
 use Prim.Native.Nat.{ℕ}
 use mathlib.Core.Bool.{not, _||_}
 use mathlib.Core.List.{List, _++_}
-use lib.Dec.{leb, eqb}
+use lib.Dec.{eqb}
 use lib.ListN.{length, take, drop, set}
 use Rattle.sed1520.specs.Choice.{if}
 use Rattle.sed1520.specs.Chip.{latched}
 use Rattle.sed1520.specs.ChipRecord.{mark, chipBytes, registersIn}
-use Rattle.sed1520.specs.Cycle.{Outcome, readLine, writeLine, commandWrite, dataWrite, dataRead, statusRead}
+use Rattle.sed1520.specs.Cycle.{Outcome, busRefusal, commandWrite, dataWrite, dataRead, statusRead}
 use Rattle.sed1520.specs.declared.registers.Chip.{Chip}
 use Rattle.sed1520.specs.declared.actions.Answer.{Answer}
 use Rattle.sed1520.specs.declared.bus.Record.{Record}
@@ -56,14 +56,6 @@ actionOn lines byte b ram =
     (if (eqb lines 4) (acted (bare (statusRead (registersIn b))) b ram)
     (if (eqb lines 5) (acted (bare (dataRead (registersIn b) ram)) (readBytes b (dataRead (registersIn b) ram .chip)) ram)
     (acted (bare (commandWrite byte (registersIn b))) (commandBytes b (commandWrite byte (registersIn b))) ram)))
-
--- numbers 4, 5 and 6 of a bus record, or 0
-unfoldable pub busRefusal : Record → ℕ
-busRefusal r =
-    if (leb 8 (r .lines) || not (eqb (r .spare) 0)) 4
-    (if (leb 2 (r .chip)) 5
-    (if (eqb (readLine (r .lines)) (writeLine (r .lines))) 6
-    0))
 
 -- where part k of two parts of n bytes begins
 abbrev pub startOf : ℕ → ℕ → ℕ

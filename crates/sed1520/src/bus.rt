@@ -1,8 +1,7 @@
 // One bus cycle: what the bus carried, and which action of the chip it asks for.
 ghost use Prim.Native.Nat.{_≤_};
 ghost use mathlib.Core.Path.{_≡_};
-ghost use Rattle.sed1520.specs.Cycle.{outcome, actionOf, cycleOf};
-ghost use Rattle.sed1520.specs.RecordStep.{busRefusal};
+ghost use Rattle.sed1520.specs.Cycle.{busRefusal, outcome, actionOf, cycleOf};
 use crate::actions::Answer;
 use crate::registers::Chip;
 

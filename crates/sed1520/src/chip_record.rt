@@ -45,7 +45,7 @@ fn latch_of(mark: u8, byte: u8) -> ReadLatch
     }
 }
 
-// The registers that a record says, its marks not tested.
+// The registers that a record says, its flags, mark and last byte not tested.
 pub(crate) fn registers_in(bytes: &[u8]) -> Chip
     requires { ⌜ length (now bytes) ≡ 12 ⌝ }
     ensures { λ r. ⌜ r ≡ registersIn (now (bytes .entry)) ⌝ }
@@ -100,7 +100,7 @@ fn no_chip() -> Chip
     chip
 }
 
-// The chip of a record; where its marks are wrong, one that number 2 does not let pass.
+// The chip of a record; where a flag, the mark or the last byte is wrong, one that number 2 does not let pass.
 fn chip_in(bytes: &[u8]) -> Chip
     requires { ⌜ length (now bytes) ≡ 12 ⌝ }
     ensures { λ r. ⌜ r ≡ chipIn (now (bytes .entry)) ⌝ }
@@ -111,7 +111,8 @@ fn chip_in(bytes: &[u8]) -> Chip
     registers_in(bytes)
 }
 
-// The chips of two records. A record that number 2 refuses gives a chip that it refuses, and so does any other length.
+// The chips of two records. A record that number 2 refuses gives a chip that it refuses; so does any other length than 24,
+// which is number 1's to refuse before. A chip so given is for testing and not for writing back.
 pub fn chips_in(records: &[u8]) -> Chips
     ensures { λ r. ⌜ r ≡ chipsIn (now (records .entry)) ⌝ }
 {

@@ -6,14 +6,13 @@ use mathlib.Core.List.{List}
 use lib.ListN.{length, take, drop}
 use borrow.Author.Tests.{eq-eqb, ne-eqb, not-false}
 use Rattle.sed1520.specs.Chip.{inRange}
-use Rattle.sed1520.specs.ChipRecord.{recordRight, chipIn, chipsBytes, chipsIn, panelIn}
+use Rattle.sed1520.specs.ChipRecord.{recordRight, chipIn, chipsBytes, chipsIn, panelIn, RecordsFit}
 use Rattle.sed1520.specs.Panel.{Panel, panelOf}
-use Rattle.sed1520.specs.Promises.{RecordsFit}
 use Rattle.sed1520.specs.declared.registers.Chip.{Chip}
 use Rattle.sed1520.specs.declared.chip_record.Chips.{Chips}
 use Rattle.sed1520.proofs.RecordsUndo.{passes, two-chips, two-length, two-there, two-back, two-pass}
 use Rattle.sed1520.proofs.Tests.{both, when}
-use Rattle.trace.specs.Replay.{Outcome, refusedAt, sizesWrong, replayOf, InPlace, inPlace, refusal, rewritten, settled, replayInPlace}
+use Rattle.trace.specs.Replay.{Outcome, refusedAt, sizesWrong, replayOf, InPlace, inPlace, refusal, rewritten, overRecords, replayInPlace}
 use Rattle.trace.proofs.Resumed.{stoppedAt}
 
 -- the records of the panel that they are, are themselves
@@ -24,11 +23,11 @@ kept chips ram h =
     (λ _. refl)
 
 -- records that passed before and after are those of the panel afterwards
-pub settled-at : {from ram₀ chips ram answers : List ℕ} {n compared differing at : ℕ} {whole : Outcome}
+pub over-records-at : {from ram₀ chips ram answers : List ℕ} {n compared differing at : ℕ} {whole : Outcome}
     → RecordsFit from ram₀ → RecordsFit chips ram
     → stoppedAt n compared differing at (panelIn chips ram) answers ≡ whole
-    → inPlace (record { number = n; place = at; compared = compared; differing = differing }) chips ram answers ≡ settled from whole
-settled-at {chips = chips} before after e =
+    → inPlace (record { number = n; place = at; compared = compared; differing = differing }) chips ram answers ≡ overRecords from whole
+over-records-at {chips = chips} before after e =
     rw (← e, before .left, before .right, two-back chips (after .records) (after .left) (after .right))
 
 module _ (chips ram trace answers : List ℕ) where
@@ -37,12 +36,12 @@ module _ (chips ram trace answers : List ℕ) where
   chips-refused h = rw (ne-eqb (length chips) 24 h)
 
   module _ (records : length chips ≡ 24) where
-    on-panel : replayInPlace chips ram trace answers ≡ settled chips (replayOf (panelIn chips ram) trace answers)
+    on-panel : replayInPlace chips ram trace answers ≡ overRecords chips (replayOf (panelIn chips ram) trace answers)
     unfolding replayInPlace
     on-panel = rw (eq-eqb (length chips) 24 records)
 
-    pub as-panel : (o : Outcome) → replayOf (panelIn chips ram) trace answers ≡ o → replayInPlace chips ram trace answers ≡ settled chips o
-    as-panel o e = on-panel ∙ ap (settled chips) e
+    pub as-panel : (o : Outcome) → replayOf (panelIn chips ram) trace answers ≡ o → replayInPlace chips ram trace answers ≡ overRecords chips o
+    as-panel o e = on-panel ∙ ap (overRecords chips) e
 
     pub refused-before : (n at : ℕ) → replayOf (panelIn chips ram) trace answers ≡ refusedAt n at (panelIn chips ram) answers
         → replayInPlace chips ram trace answers ≡ inPlace (refusal n at) chips ram answers

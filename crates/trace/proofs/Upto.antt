@@ -8,9 +8,8 @@ use lib.Dec.{eqb}
 use lib.ListN.{length, take, drop, set, length-set}
 use lib.Seq.{drop-drop}
 use Rattle.sed1520.specs.Choice.{if}
-use Rattle.sed1520.specs.ChipRecord.{panelIn}
+use Rattle.sed1520.specs.ChipRecord.{panelIn, RecordsFit}
 use Rattle.sed1520.specs.Panel.{Panel, outcomeOf, stepped}
-use Rattle.sed1520.specs.Promises.{RecordsFit}
 use Rattle.sed1520.specs.RecordStep.{acted, stepRecords}
 use Rattle.sed1520.specs.Records.{front, recordsIn, wholeRecords}
 use Rattle.sed1520.specs.declared.bus.Record.{Record}

@@ -126,14 +126,14 @@ refusal n at = record { number = n; place = at; compared = 0; differing = 0 }
 abbrev pub rewritten : List ℕ → Panel → List ℕ
 rewritten chips p = if (recordRight (take 12 chips) && recordRight (drop 12 chips)) (chipsBytes (p .left) (p .right)) chips
 
--- an outcome over chip records
-abbrev pub settled : List ℕ → Outcome → InPlace
-settled chips o =
+-- an outcome on the panel, its chips written back as records
+abbrev pub overRecords : List ℕ → Outcome → InPlace
+overRecords chips o =
     inPlace (record { number = o .number; place = o .place; compared = o .compared; differing = o .differing })
     (rewritten chips (o .panel)) (o .panel .ram) (o .answers)
 
--- number 1 for chips that are not 24 bytes, then the replay on the panel that the records are
+-- number 1 for chips that are not 24 bytes, then the replay on the panel read from the records
 unfoldable pub replayInPlace : List ℕ → List ℕ → List ℕ → List ℕ → InPlace
 replayInPlace chips ram trace answers =
     if (not (eqb (length chips) 24)) (inPlace (refusal 1 0) chips ram answers)
-    (settled chips (replayOf (panelIn chips ram) trace answers))
+    (overRecords chips (replayOf (panelIn chips ram) trace answers))

@@ -5,12 +5,11 @@ ghost use mathlib.Core.Bool.{_&&_, not};
 ghost use lib.Dec.{eqb};
 ghost use lib.ListN.{length};
 ghost use Rattle.sed1520.specs.Choice.{if};
-ghost use Rattle.sed1520.specs.ChipRecord.{panelIn};
+ghost use Rattle.sed1520.specs.ChipRecord.{panelIn, RecordsFit};
 ghost use Rattle.sed1520.specs.Panel.{panelOf};
-ghost use Rattle.sed1520.specs.Promises.{RecordsFit};
 ghost use Rattle.sed1520.specs.Records.{front, wholeRecords};
 ghost use Rattle.trace.specs.Replay.{isCompared, refusal, outcome, runOf, ended, sizesWrong, replayOf};
-ghost use Rattle.trace.specs.Replay.{inPlace, settled, replayInPlace};
+ghost use Rattle.trace.specs.Replay.{inPlace, overRecords, replayInPlace};
 use sed1520::bus::IMAGE_BYTES;
 use sed1520::bus::Record;
 use sed1520::chip_record::CHIPS_BYTES;
@@ -84,7 +83,7 @@ fn run(chips: &mut [u8], ram: &mut [u8], trace: &[u8], answers: &mut [u8]) -> Ra
     requires { ⌜ 2 * (length (now trace) / 4) ≤ length (now answers) ⌝ }
     requires { ⌜ length (now trace) ≤ 65536 ⌝ }
     ensures { λ r. ⌜ inPlace r (now (chips .exit)) (now (ram .exit)) (now (answers .exit))
-        ≡ settled (now (chips .entry))
+        ≡ overRecords (now (chips .entry))
         (ended (runOf (panelIn (now (chips .entry)) (now (ram .entry))) (wholeRecords (now (trace .entry))))
         (wholeRecords (now (trace .entry))) (now (answers .entry))) ⌝ }
 {

@@ -7,7 +7,7 @@ use lib.ListN.{length, length-set}
 use Rattle.sed1520.specs.ChipRecord.{panelIn}
 use Rattle.sed1520.specs.Records.{wholeRecords}
 use Rattle.trace.specs.Replay.{isCompared, runOf, ended}
-use Rattle.trace.proofs.InPlace.{settled-at}
+use Rattle.trace.proofs.InPlace.{over-records-at}
 use Rattle.trace.proofs.Upto.{Upto, at-most-one, started, finished, fits-again, refused-here, accepted-here}
 use borrow.Author.Needs.{needs}
 use Rattle.trace.proofs.run.Statement.{statement}
@@ -44,7 +44,7 @@ returns c =
     let step = stepped (c .before) in
     let state = head step .loop .inv in
     let given = step .step-of-tested-records .ensures in
-    settled-at
+    over-records-at
     (start (head step) .pre .0)
     (fits-again state (omega arith) (read step .record-in .ensures) given)
     (refused-here state (omega arith) (read step .record-in .ensures) given (c .if1 .taken))
@@ -72,7 +72,7 @@ loop-again c =
 returns-2 : tie.Need-returns-2 Inv-loop μ-loop
 returns-2 c =
     let state = c .before .loop .inv in
-    settled-at (start (c .before) .pre .0) (state .fits) (finished state (omega arith))
+    over-records-at (start (c .before) .pre .0) (state .fits) (finished state (omega arith))
 
 pub run-spec : {M : Type 1} → statement M
 run-spec =

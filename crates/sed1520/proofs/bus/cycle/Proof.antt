@@ -4,7 +4,7 @@ use mathlib.Core.Path.{_≡_, sym, _∙_}
 use mathlib.Core.Bool.{true}
 use borrow.Author.Tests.{not-true, not-false}
 use Rattle.sed1520.specs.Chip.{inRange}
-use Rattle.sed1520.specs.RecordStep.{busRefusal}
+use Rattle.sed1520.specs.Cycle.{busRefusal}
 use Rattle.sed1520.proofs.StepCases.{asks, step-refused, step-action, cycle-length, cycle-range, cycle-step}
 use borrow.Author.Needs.{needs}
 use Rattle.sed1520.proofs.bus.cycle.Statement.{statement}
