@@ -5,11 +5,14 @@ ghost use Rattle.sed1520.specs.ChipRecord.{bit, mark, latchOf, chipBytes
 use crate::registers::Chip;
 use crate::registers::ReadLatch;
 
-// A chip record.
+// The bytes of a chip record.
 pub(crate) const CHIP_BYTES: usize = 12;
 
-// The records of both chips.
+// The bytes of both records.
 pub const CHIPS_BYTES: usize = 24;
+
+// Two chip records, left before right.
+pub type Records = [u8; CHIPS_BYTES];
 
 // Both chips.
 pub struct Chips {
@@ -149,7 +152,7 @@ pub(crate) fn chip_out(chip: Chip, bytes: &mut [u8])
 }
 
 // Two chips as records, left before right.
-pub fn chips_bytes(left: Chip, right: Chip) -> [u8; CHIPS_BYTES]
+pub fn chips_bytes(left: Chip, right: Chip) -> Records
     ensures { λ r. ⌜ r ≡ chipsBytes left right ⌝ }
 {
     let mut records = [0u8; CHIPS_BYTES];

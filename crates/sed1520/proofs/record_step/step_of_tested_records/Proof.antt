@@ -1,4 +1,5 @@
 -- `sed1520::record_step::step_of_tested_records` meets its contract: the action on the parts of the records and of the image that are the chip's.
+use Prim.Native.Nat.{_≤_}
 use native.Mathlib.Omega.{arith}
 use mathlib.Core.Path.{sym, _∙_}
 use Rattle.sed1520.proofs.RecordStepCases.{chips-wrong, image-wrong, bus-wrong, on-parts}
@@ -18,29 +19,24 @@ returns-3 c =
     let told = c .before .before .refusal .ensures in
     rw (c .refused3 .ensures, told) (sym (bus-wrong _ _ _ (omega arith) (omega arith) (λ e. c .before .if3 .taken (told ∙ e))))
 
+-- the parts that are lent lie within the records and within the image
+records-start : (c : tie.After-start-of) → c .start-of .result ≤ 12
+records-start c = start-within 12 (c .before .before .before .before .before .before .before .args .bus .chip) _ (c .start-of .ensures)
+
+image-start : (c : tie.After-start-of2) → c .start-of2 .result ≤ 320
+image-start c = start-within 320 (c .before .before .before .before .before .before .before .before .args .bus .chip) _ (c .start-of2 .ensures)
+
 add-act : tie.Need-add-act
-add-act c =
-    let passed = c .before .before in
-    let chip = passed .before .before .before .before .before .before .args .bus .chip in
-    omega (arith, start-within 12 chip _ (c .before .start-of .ensures))
+add-act c = omega (arith, records-start (c .before))
 
 part-act-end : tie.Need-part-act-end
-part-act-end c =
-    let passed = c .before .before in
-    let chip = passed .before .before .before .before .before .before .args .bus .chip in
-    omega (arith, start-within 12 chip _ (c .before .start-of .ensures))
+part-act-end c = omega (arith, records-start (c .before))
 
 add-act-2 : tie.Need-add-act-2
-add-act-2 c =
-    let passed = c .before .before .before in
-    let chip = passed .before .before .before .before .before .before .args .bus .chip in
-    omega (arith, start-within 320 chip _ (c .before .start-of2 .ensures))
+add-act-2 c = omega (arith, image-start (c .before))
 
 part-act-end-2 : tie.Need-part-act-end-2
-part-act-end-2 c =
-    let passed = c .before .before .before in
-    let chip = passed .before .before .before .before .before .before .args .bus .chip in
-    omega (arith, start-within 320 chip _ (c .before .start-of2 .ensures))
+part-act-end-2 c = omega (arith, image-start (c .before))
 
 returns-4 : tie.Need-returns-4
 returns-4 c =
