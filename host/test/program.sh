@@ -5,7 +5,7 @@ set -u
 program=$1 listing=$2 traces=$3
 failed=0 runs=0
 complain() { echo "program: $*"; failed=$((failed + 1)); }
-compare() { # LABEL FILE: the program, given the file at once and in small pieces
+compare() { # LABEL FILE: the program, given the file
     runs=$((runs + 1))
     "$listing" <"$2" >"$traces/wanted"
     "$program" <"$2" >"$traces/printed"

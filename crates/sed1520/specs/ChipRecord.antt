@@ -92,7 +92,7 @@ chipsIn chips = if (eqb (length chips) 24) (chipsOf (chipIn (take 12 chips)) (ch
 abbrev pub panelIn : List ℕ → List ℕ → Panel
 panelIn chips ram = panelOf (chipsIn chips .left) (chipsIn chips .right) ram
 
--- what a step over records and the replay's loop ask: two chip records that number 2 lets pass, and the whole image
+-- what EveryRecordStep and the replay's loop ask: two chip records that number 2 lets pass, and the whole image
 pub record RecordsFit (chips ram : List ℕ) : Type 0 where
   pub records : length chips ≡ 24
   pub left : recordRight (take 12 chips) ≡ true

@@ -48,7 +48,7 @@ pub record Keeps (c : Chip) (ram : List ℕ) (o : Outcome) : Type 0 where
 abbrev pub EveryCycleKeeps : Type 0
 EveryCycleKeeps = (r : Record) (c : Chip) (ram : List ℕ) → Keeps c ram (cycleOf r c ram)
 
--- past numbers 1 and 2, every cycle is a step
+-- past numbers 1 and 2, every cycle is `stepOf`
 abbrev pub EveryCycleSteps : Type 0
 EveryCycleSteps = (r : Record) (c : Chip) (ram : List ℕ) → length ram ≡ 320 → inRange c ≡ true → cycleOf r c ram ≡ stepOf r c ram
 

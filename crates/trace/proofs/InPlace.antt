@@ -1,4 +1,4 @@
--- A replay over chip records: where it refuses, the records stay; else they are those of the panel's chips.
+-- A replay over chip records: refused before the first record, the chip records stay; else they are those of the panel's chips.
 use Prim.Native.Nat.{ℕ}
 use mathlib.Core.Path.{_≡_, refl, sym, ap, _∙_}
 use mathlib.Core.Bool.{true, false, not, _&&_, true≢false}

@@ -1,4 +1,5 @@
-// Runs the worked sequences of the sheet through the cycle and checks every number, kind and byte that it answers.
+// Runs the worked sequences of the sheet and document 01's listing through the cycle and checks every number, kind and
+// byte that it answers.
 ghost use Prim.Native.Nat.{_≤_};
 ghost use mathlib.Core.Path.{_≡_};
 ghost use lib.ListN.{length};
