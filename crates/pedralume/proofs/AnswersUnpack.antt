@@ -4,7 +4,7 @@ use native.Mathlib.Omega.{arith}
 use mathlib.Core.Path.{_≡_}
 use mathlib.Core.List.{List}
 use Rattle.trace.specs.Replay.{InPlace, replayInPlace}
-use Rattle.trace.proofs.Bounds.{in-place-bounded}
+use Rattle.trace.proofs.Bounds.{replay-bounded, in-place-bounded}
 use Rattle.frame.proofs.FrameCases.{places-small}
 use Rattle.repaint.proofs.RepaintCases as repaint
 use Rattle.pedralume.specs.Promises.{Unpacks, SmallRan, AnswersUnpack}
@@ -25,4 +25,13 @@ packable chips ram trace answers i e =
     rw e (small .place, (small .compared, small .differing))
 
 pub answers-unpack : AnswersUnpack
-answers-unpack = record { parts = unpacks; replay = small-ran; frame-place = places-small; repaint-place = repaint.places-small }
+answers-unpack =
+    record {
+      parts = unpacks;
+      replay = small-ran;
+      replay-place = λ p trace answers. omega (arith, replay-bounded p trace answers .place);
+      replay-compared = λ p trace answers. omega (arith, replay-bounded p trace answers .compared);
+      replay-differing = λ p trace answers. omega (arith, replay-bounded p trace answers .differing);
+      frame-place = places-small;
+      repaint-place = repaint.places-small;
+    }

@@ -2,8 +2,9 @@
 use Prim.Native.Nat.{ℕ, _/_, _%_, _^_, _<_}
 use mathlib.Core.Path.{_≡_}
 use mathlib.Core.List.{List}
+use Rattle.sed1520.specs.Panel.{Panel}
 use Rattle.sed1520.specs.declared.registers.Chip.{Chip}
-use Rattle.trace.specs.Replay.{replayInPlace}
+use Rattle.trace.specs.Replay.{replayOf, replayInPlace}
 use Rattle.trace.specs.declared.Ran.{Ran}
 use Rattle.frame.specs.Frame.{framed}
 use Rattle.repaint.specs.Repaint.{repaintOf}
@@ -23,9 +24,12 @@ pub record SmallRan (r : Ran) : Type 0 where
   pub differing : r .differing < 65536
 
 -- so it is where the number is a byte, as the code's is, and place and compared count below 65,536; which they are in all that the calls
--- give back, and so is differing
+-- give back, and so is differing; and in a replay by value
 pub record AnswersUnpack : Type 0 where
   pub parts : (n at compared differing : ℕ) → n < 256 → at < 65536 → compared < 65536 → Unpacks n at compared differing
   pub replay : (chips ram trace answers : List ℕ) → SmallRan (replayInPlace chips ram trace answers .answer)
+  pub replay-place : (p : Panel) (trace answers : List ℕ) → replayOf p trace answers .place < 65536
+  pub replay-compared : (p : Panel) (trace answers : List ℕ) → replayOf p trace answers .compared < 65536
+  pub replay-differing : (p : Panel) (trace answers : List ℕ) → replayOf p trace answers .differing < 65536
   pub frame-place : (left right : Chip) (ram frame : List ℕ) → framed left right ram frame .answer .place < 65536
   pub repaint-place : (left right : Chip) (picture buffer : List ℕ) → repaintOf left right picture buffer .answer .place < 65536
