@@ -1,8 +1,6 @@
 pub mod Packing
 pub mod Segments
-pub mod Halves
-pub mod Filled
-pub mod Rows
+pub mod Places
 pub mod FrameCases
 pub mod HalfLaws
 pub mod Pixels

@@ -1,15 +1,14 @@
 -- Pixels packed into a number, and eight RAM lines taken out of two pages at once.
 use Prim.Native.Nat.{ℕ, zero, suc, _+_, _-_, _*_, _/_, _%_, _^_, _<_, _≤_}
 use native.Mathlib.Omega.{arith}
-use mathlib.Core.Path.{_≡_, refl, sym, ap, _∙_}
+use mathlib.Core.Path.{_≡_, refl, _∙_}
 use mathlib.Core.List.{List}
 use mathlib.Core.Logic.{⊎-elim}
 use lib.Dec.{ltb}
-use lib.ListN.{getD}
 use lib.Pow.{shr-shr, mod-pow-add, field, mod-mod-pow}
 use borrow.Author.Tests.{ltb-true, ltb-false}
-use Rattle.sed1520.specs.Memory.{ramIndex}
-use Rattle.sed1520.proofs.Tests.{tested}
+use Rattle.sed1520.specs.Memory.{byteAt}
+use Rattle.basics.proofs.Tests.{tested}
 use Rattle.frame.specs.Frame.{lineBit, packedPixels}
 
 -- the next place, and the next bit
@@ -41,56 +40,50 @@ packed-bits (suc n) f at x h =
     let more : suc n ≡ n + 1 = omega arith in
     rw (rest, more, mod-pow-add x n 1) (omega arith)
 
--- a page and the next one as one number of 16 bits
+-- a page and the next one as one number: its bits below 8 are those of the upper page, from 8 on those of the lower one
 module _ (upper lower : ℕ) (byte : upper < 256) where
   abbrev wide : ℕ
   wide = upper + 256 * lower
 
-  -- below 8, its bits are those of the upper page
-  pub wide-upper : (k : ℕ) → k < 8 → wide / 2 ^ k % 2 ≡ upper / 2 ^ k % 2
+  wide-upper : (k : ℕ) → k < 8 → upper / 2 ^ k % 2 ≡ wide / 2 ^ k % 2
   wide-upper k h =
       let all : 7 - k + 1 + k ≡ 8 = omega arith in
       let low : wide % 2 ^ 8 ≡ upper = omega arith in
       let cut = rw (all, low) at (field wide (7 - k + 1) k) in
-      sym (ap (λ (m : ℕ). m % 2) cut ∙ mod-mod-pow (wide / 2 ^ k) (7 - k) 1)
+      rw cut (mod-mod-pow (wide / 2 ^ k) (7 - k) 1)
 
-  -- from 8 on, those of the lower page
-  pub wide-lower : (k : ℕ) → wide / 2 ^ (8 + k) ≡ lower / 2 ^ k
-  wide-lower k =
-      let all : wide / 256 ≡ lower = omega arith in
-      sym (shr-shr wide 8 k) ∙ rw all
+  wide-lower : (k : ℕ) → 8 ≤ k → lower / 2 ^ (k - 8) % 2 ≡ wide / 2 ^ k % 2
+  wide-lower k h =
+      let all : 8 + (k - 8) ≡ k = omega arith in
+      let high : wide / 2 ^ 8 ≡ lower = omega arith in
+      let cut = rw (all, high) at (shr-shr wide 8 (k - 8)) in
+      rw cut
 
--- the eight lines from a line on
+-- the eight lines from a line on, out of its page and the one after it, counted round
 module _ (ram : List ℕ) (column line : ℕ) (near : line < 64) where
-  -- the page of a line and the page after it, counted round
   abbrev upper : ℕ
-  upper = getD ram (ramIndex (line % 32 / 8) column) 0
+  upper = byteAt ram (line % 32 / 8) column
 
   abbrev lower : ℕ
-  lower = getD ram (ramIndex ((line % 32 / 8 + 1) % 4) column) 0
+  lower = byteAt ram ((line % 32 / 8 + 1) % 4) column
 
-  module _ (byte : upper < 256) (i : ℕ) (h : i < 8) where
-    same-page : line % 8 + i < 8 → lineBit ram column (line + i) ≡ (upper + 256 * lower) / 2 ^ (line % 8 + i) % 2
-    same-page l =
-        let page : (line + i) % 32 / 8 ≡ line % 32 / 8 = omega arith in
-        let bit : (line + i) % 8 ≡ line % 8 + i = omega arith in
-        rw (page, bit) (sym (wide-upper upper lower byte (line % 8 + i) l))
-
-    next-page : 8 ≤ line % 8 + i → lineBit ram column (line + i) ≡ (upper + 256 * lower) / 2 ^ (line % 8 + i) % 2
-    next-page l =
-        let page : (line + i) % 32 / 8 ≡ (line % 32 / 8 + 1) % 4 = omega arith in
-        let bit : (line + i) % 8 ≡ line % 8 + i - 8 = omega arith in
-        let sum : line % 8 + i ≡ 8 + (line % 8 + i - 8) = omega arith in
-        let below = ap (λ (k : ℕ). k % 2) (wide-lower upper lower byte (line % 8 + i - 8)) in
-        rw (page, bit) (sym (ap (λ (k : ℕ). (upper + 256 * lower) / 2 ^ k % 2) sum ∙ below))
-
-    each : lineBit ram column (line + i) ≡ (upper + 256 * lower) / 2 ^ (line % 8) / 2 ^ i % 2
-    each =
+  module _ (byte : upper < 256) where
+    each : (i : ℕ) → i < 8 → lineBit ram column (line + i) ≡ (upper + 256 * lower) / 2 ^ (line % 8) / 2 ^ i % 2
+    each i h =
+        let k = line % 8 + i in
         rw (shr-shr (upper + 256 * lower) (line % 8) i)
         (⊎-elim
-        (λ l. same-page (ltb-true (line % 8 + i) 8 l))
-        (λ l. next-page (ltb-false (line % 8 + i) 8 l))
-        (tested (ltb (line % 8 + i) 8)))
+        (λ t.
+        let l = ltb-true k 8 t in
+        let page : (line + i) % 32 / 8 ≡ line % 32 / 8 = omega arith in
+        let bit : (line + i) % 8 ≡ k = omega arith in
+        rw (page, bit) (wide-upper upper lower byte k l))
+        (λ t.
+        let l = ltb-false k 8 t in
+        let page : (line + i) % 32 / 8 ≡ (line % 32 / 8 + 1) % 4 = omega arith in
+        let bit : (line + i) % 8 ≡ k - 8 = omega arith in
+        rw (page, bit) (wide-lower upper lower byte k l))
+        (tested (ltb k 8)))
 
-  pub lines-wide : upper < 256 → packedPixels (lineBit ram column) line 8 ≡ (upper + 256 * lower) / 2 ^ (line % 8) % 256
-  lines-wide byte = packed-bits 8 (lineBit ram column) line ((upper + 256 * lower) / 2 ^ (line % 8)) (each byte)
+    pub lines-wide : packedPixels (lineBit ram column) line 8 ≡ (upper + 256 * lower) / 2 ^ (line % 8) % 256
+    lines-wide = packed-bits 8 (lineBit ram column) line ((upper + 256 * lower) / 2 ^ (line % 8)) each

@@ -4,16 +4,14 @@ use native.Mathlib.Omega.{arith}
 use mathlib.Core.Path.{_≡_}
 use mathlib.Core.Bool.{not, _&&_}
 use mathlib.Core.List.{List}
-use mathlib.Core.Logic.{⊎-elim}
-use lib.Dec.{leb, ltb}
-use borrow.Author.Tests.{ltb-true, ltb-false}
+use lib.Dec.{leb}
 use Rattle.sed1520.specs.Panel.{chipAt, ramAt}
 use Rattle.sed1520.specs.declared.registers.Chip.{Chip}
-use Rattle.sed1520.proofs.Tests.{tested, when}
-use Rattle.frame.specs.Frame.{segments, columns, pixel, packedPixels, frameByte}
-use Rattle.frame.specs.Laws.{firstColumn, EveryPixelPlaced}
+use Rattle.basics.proofs.Tests.{when}
+use Rattle.frame.specs.Frame.{segments, pixel, packedPixels, frameByte}
+use Rattle.frame.specs.Laws.{EveryPixelPlaced}
 use Rattle.frame.proofs.Packing.{next, halved}
-use Rattle.frame.proofs.HalfLaws.{half-laws}
+use Rattle.frame.proofs.Places.{column-place, frame-at}
 
 -- a pixel is 0 or 1
 pixel-small : (c : Chip) (ram : List ℕ) (n row : ℕ) → pixel c ram n row < 2
@@ -40,16 +38,8 @@ byte-bit : (c : Chip) (ram : List ℕ) (n r b : ℕ) → b < 8 → frameByte c r
 unfolding frameByte
 byte-bit c ram n r b h = packed-bit (pixel c ram n) (pixel-small c ram n) 8 (8 * r) b h
 
--- the place of a column by its half
-column-place : (x r : ℕ) → x < columns → firstColumn (x / segments) + x % segments + columns * r ≡ x + columns * r
-column-place x r h =
-    ⊎-elim
-    (λ t. let l = ltb-true x segments t in let left : x / segments ≡ 0 = omega arith in rw left (omega arith))
-    (λ t. let l = ltb-false x segments t in let right : x / segments ≡ 1 = omega arith in rw right (omega arith))
-    (tested (ltb x segments))
-
 pub every-pixel-placed : EveryPixelPlaced
 every-pixel-placed p x r b column row bit =
     let k = x / segments in
-    let byte = rw (column-place x r column) at (half-laws .place p k (x % segments) r (omega arith) row) in
+    let byte = rw (column-place x r column) at (frame-at p k (x % segments) r (omega arith) row) in
     rw byte (byte-bit (chipAt p k) (ramAt p k) (x % segments) r b bit)

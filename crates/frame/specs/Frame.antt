@@ -1,14 +1,18 @@
 -- The frame: what the 122 by 32 panel (document 01: the glass) shows, each half driven by its own chip.
 use Prim.Native.Nat.{ℕ, zero, suc, _+_, _-_, _*_, _/_, _%_, _^_}
 use mathlib.Core.Bool.{Bool, not, _&&_, _||_}
-use mathlib.Core.List.{List, [], _∷_, _++_}
+use mathlib.Core.List.{List, _++_}
 use lib.Dec.{leb, eqb}
-use lib.ListN.{length, getD, take, drop}
-use Rattle.sed1520.specs.Choice.{if}
+use lib.ListN.{length}
+use Rattle.basics.specs.Choice.{if}
+use Rattle.basics.specs.Halves.{startOf}
+use Rattle.basics.specs.Lists.{joined, tabulated}
 use Rattle.sed1520.specs.Chip.{inRange}
-use Rattle.sed1520.specs.Memory.{ramIndex}
+use Rattle.sed1520.specs.Memory.{byteAt}
+use Rattle.sed1520.specs.Panel.{Panel, ramAt}
+use Rattle.sed1520.specs.Verdict.{verdict, unless, Filled, filledBy}
 use Rattle.sed1520.specs.declared.registers.Chip.{Chip}
-use Rattle.frame.specs.declared.Framed.{Framed}
+use Rattle.sed1520.specs.declared.verdict.Verdict.{Verdict}
 
 -- the segments that a chip drives
 abbrev pub segments : ℕ
@@ -20,7 +24,7 @@ columns = segments + segments
 
 -- the bytes of a frame: 488
 abbrev pub frameBytes : ℕ
-frameBytes = 4 * columns
+frameBytes = columns * 4
 
 -- the RAM column of a segment
 abbrev pub columnOf : Chip → ℕ → ℕ
@@ -28,7 +32,7 @@ columnOf c n = if (c .reverse) (79 - n) n
 
 -- the pixel that the RAM has in a column at a line, line 32 being line 0 again, bit 0 of a page topmost
 abbrev pub lineBit : List ℕ → ℕ → ℕ → ℕ
-lineBit ram column line = getD ram (ramIndex (line % 32 / 8) column) 0 / 2 ^ (line % 8) % 2
+lineBit ram column line = byteAt ram (line % 32 / 8) column / 2 ^ (line % 8) % 2
 
 -- the pixel of segment n in a row: 1 lit, 0 dark
 unfoldable pub pixel : Chip → List ℕ → ℕ → ℕ → ℕ
@@ -47,45 +51,28 @@ packedPixels f row (suc n) = f row + 2 * packedPixels f (row + 1) n
 unfoldable pub frameByte : Chip → List ℕ → ℕ → ℕ → ℕ
 frameByte c ram n r = packedPixels (pixel c ram n) (8 * r) 8
 
--- a function at n numbers from one on
-unfoldable pub tabulated : (ℕ → ℕ) → ℕ → ℕ → List ℕ
-tabulated f i zero = []
-tabulated f i (suc n) = f i ∷ tabulated f (i + 1) n
-
 -- a half of a given width in the eight rows from 8 r: the bytes of its segments in rising order
 abbrev pub halfRow : ℕ → Chip → List ℕ → ℕ → List ℕ
 halfRow width c ram r = tabulated (λ n. frameByte c ram n r) 0 width
 
 -- the panel in the eight rows from 8 r: the left chip's half, then the right chip's, each over its own 320 bytes
-unfoldable pub frameRow : Chip → Chip → List ℕ → ℕ → List ℕ
-frameRow left right ram r = halfRow segments left (take 320 ram) r ++ halfRow segments right (drop 320 ram) r
+unfoldable pub frameRow : Panel → ℕ → List ℕ
+frameRow p r = halfRow segments (p .left) (ramAt p 0) r ++ halfRow segments (p .right) (ramAt p 1) r
 
 -- the frame: r from 0 to 3, one after the other
-unfoldable pub frameOf : Chip → Chip → List ℕ → List ℕ
-frameOf left right ram =
-    frameRow left right ram 0 ++ (frameRow left right ram 1 ++ (frameRow left right ram 2 ++ frameRow left right ram 3))
+unfoldable pub frameOf : Panel → List ℕ
+frameOf p = joined (frameRow p) 0 4
 
--- what the call gives back, and the frame buffer afterwards
-pub record Outcome : Type 0 where
-  pub answer : Framed
-  pub frame : List ℕ
-
--- an outcome from its number, its place and the buffer
-abbrev pub outcome : ℕ → ℕ → List ℕ → Outcome
-outcome n at frame = record { answer = record { number = n; place = at }; frame = frame }
+-- where the byte of a chip's segment n in the eight rows from 8 r stands, in a frame and in a picture
+unfoldable pub framePlace : ℕ → ℕ → ℕ → ℕ
+framePlace chip n r = startOf segments chip + n + columns * r
 
 -- number 1: an image that is not 640 bytes, a frame that is not 488
-unfoldable pub sizesWrong : ℕ → ℕ → Bool
-sizesWrong ram frame = not (eqb ram 640) || not (eqb frame frameBytes)
+unfoldable pub frameSizesWrong : ℕ → ℕ → Bool
+frameSizesWrong ram frame = not (eqb ram 640) || not (eqb frame frameBytes)
 
 -- numbers 1 and 2 (left before right), then the frame, with its length as place
-unfoldable pub framed : Chip → Chip → List ℕ → List ℕ → Outcome
-framed left right ram frame =
-    if (sizesWrong (length ram) (length frame)) (outcome 1 0 frame)
-    (if (not (inRange left)) (outcome 2 0 frame)
-    (if (not (inRange right)) (outcome 2 1 frame)
-    (outcome 0 frameBytes (frameOf left right ram))))
-
--- what the function gives back with the buffer as it leaves it
-abbrev pub given : Framed → List ℕ → Outcome
-given r frame = record { answer = r; frame = frame }
+unfoldable pub framed : Panel → List ℕ → Filled Verdict
+framed p buffer =
+    filledBy (frameSizesWrong (length (p .ram)) (length buffer))
+    (unless (λ c. not (inRange c)) 2 (p .left) (p .right) (verdict 0 frameBytes)) (frameOf p) buffer

@@ -1,4 +1,3 @@
 pub mod Frame
-pub mod Shown
 pub mod Laws
 pub mod Examples

@@ -1,23 +1,23 @@
 // The frame: the 488 bytes that the panel shows.
-ghost use Prim.Native.Nat.{_<_, _≤_};
+pub mod place;
+
+ghost use Prim.Native.Nat.{_+_, _*_, _/_, _%_, _^_, _<_, _≤_};
 ghost use mathlib.Core.Path.{_≡_};
 ghost use mathlib.Core.Bool.{_&&_, not};
 ghost use lib.Dec.{leb};
 ghost use lib.ListN.{length};
-ghost use Rattle.frame.specs.Frame.{columns, frameBytes, columnOf, lineBit, packedPixels, frameByte, halfRow};
-ghost use Rattle.frame.specs.Frame.{frameRow, frameOf, sizesWrong, framed, given};
-ghost use Rattle.frame.specs.Shown.{Shows, BothShow};
+ghost use Rattle.frame.specs.Frame.{frameBytes, columnOf, lineBit, packedPixels, frameByte, halfRow};
+ghost use Rattle.frame.specs.Frame.{frameOf, frameSizesWrong, framed};
+ghost use Rattle.sed1520.specs.Laws.{Fit, Whole};
+ghost use Rattle.sed1520.specs.Panel.{panelOf};
+ghost use Rattle.sed1520.specs.Verdict.{filled};
 use sed1520::bus::IMAGE_BYTES;
+use sed1520::memory::index;
 use sed1520::registers::Chip;
+use sed1520::verdict::Verdict;
 
-// A frame: 122 columns, four bytes of eight rows each.
-pub const FRAME_BYTES: usize = 488;
-
-// What a frame gives back: the number and its place.
-pub struct Framed {
-    pub number: u8,
-    pub place: u64,
-}
+// A frame: four bytes of eight rows in each of 122 columns.
+pub const FRAME_BYTES: usize = Chip::PANEL_WIDTH * 4;
 
 // The RAM column of a segment.
 fn column_of(chip: Chip, n: usize) -> usize
@@ -25,6 +25,14 @@ fn column_of(chip: Chip, n: usize) -> usize
     ensures { λ r. ⌜ r ≡ columnOf chip n ⌝ }
 {
     if chip.reverse { 79 - n } else { n }
+}
+
+// Eight lines from a line on, out of the byte of its page and that of the page below.
+fn eight_lines(upper: u8, lower: u8, line: usize) -> u8
+    ensures { λ r. ⌜ r ≡ (upper + 256 * lower) / 2 ^ (line % 8) % 256 ⌝ }
+{
+    let both = (upper as u16) + 256 * (lower as u16);
+    ((both >> (line % 8)) % 256) as u8
 }
 
 // The eight pixels of a column from a RAM line on, out of the two pages that they lie in.
@@ -35,10 +43,9 @@ fn lines_from(ram: &[u8], column: usize, line: usize) -> u8
     ensures { λ r. ⌜ r ≡ packedPixels (lineBit (now (ram .entry)) column) line 8 ⌝ }
 {
     let page = line % 32 / 8;
-    let shift = line % 8;
-    let upper = ram[Chip::PAGE_WIDTH * page + column] as u16;
-    let lower = ram[Chip::PAGE_WIDTH * ((page + 1) % 4) + column] as u16;
-    (((upper + 256 * lower) >> shift) % 256) as u8
+    let upper = index(page as u8, column as u8);
+    let lower = index(((page + 1) % 4) as u8, column as u8);
+    eight_lines(ram[upper], ram[lower], line)
 }
 
 // Whether duty 1/16 leaves the eight rows from 8 r dark.
@@ -50,7 +57,7 @@ fn rows_dark(chip: Chip, r: usize) -> bool
 
 // The byte of a segment in the eight rows from 8 r.
 fn segment_byte(chip: Chip, ram: &[u8], n: usize, r: usize) -> u8
-    requires { ⌜ Shows chip (now ram) ⌝ }
+    requires { ⌜ Fit chip (now ram) ⌝ }
     requires { ⌜ n < 80 ⌝ }
     requires { ⌜ r < 4 ⌝ }
     ensures { λ b. ⌜ b ≡ frameByte chip (now (ram .entry)) n r ⌝ }
@@ -70,7 +77,7 @@ fn segment_byte(chip: Chip, ram: &[u8], n: usize, r: usize) -> u8
 
 // A half in the eight rows from 8 r: a byte for each segment.
 fn fill_half(chip: Chip, ram: &[u8], r: usize, half: &mut [u8])
-    requires { ⌜ Shows chip (now ram) ⌝ }
+    requires { ⌜ Fit chip (now ram) ⌝ }
     requires { ⌜ r < 4 ⌝ }
     requires { ⌜ length (now half) ≤ 80 ⌝ }
     ensures { λ _. ⌜ now (half .exit) ≡ halfRow (length (now (half .entry))) chip (now (ram .entry)) r ⌝ }
@@ -82,36 +89,26 @@ fn fill_half(chip: Chip, ram: &[u8], r: usize, half: &mut [u8])
     }
 }
 
-// Both halves in the eight rows from 8 r.
-fn fill_row(left: Chip, right: Chip, ram: &[u8], r: usize, row: &mut [u8])
-    requires { ⌜ BothShow left right (now ram) ⌝ }
-    requires { ⌜ r < 4 ⌝ }
-    requires { ⌜ length (now row) ≡ columns ⌝ }
-    ensures { λ _. ⌜ now (row .exit) ≡ frameRow left right (now (ram .entry)) r ⌝ }
-{
-    let middle = Chip::SEGMENTS;
-    fill_half(left, &ram[..Chip::RAM_WIDTH], r, &mut row[..middle]);
-    fill_half(right, &ram[Chip::RAM_WIDTH..], r, &mut row[middle..]);
-}
-
-// The frame of chips in range, row by row.
+// The frame of chips in range, row by row: the left half, then the right one.
 fn fill(left: Chip, right: Chip, ram: &[u8], frame: &mut [u8])
-    requires { ⌜ BothShow left right (now ram) ⌝ }
+    requires { ⌜ Whole (panelOf left right (now ram)) ⌝ }
     requires { ⌜ length (now frame) ≡ frameBytes ⌝ }
-    ensures { λ _. ⌜ now (frame .exit) ≡ frameOf left right (now (ram .entry)) ⌝ }
+    ensures { λ _. ⌜ now (frame .exit) ≡ frameOf (panelOf left right (now (ram .entry))) ⌝ }
 {
     let mut r = 0;
     while r < 4 {
         let at = Chip::PANEL_WIDTH * r;
-        let end = at + Chip::PANEL_WIDTH;
-        fill_row(left, right, ram, r, &mut frame[at..end]);
+        let middle = at + Chip::SEGMENTS;
+        let end = middle + Chip::SEGMENTS;
+        fill_half(left, &ram[0..Chip::RAM_WIDTH], r, &mut frame[at..middle]);
+        fill_half(right, &ram[Chip::RAM_WIDTH..], r, &mut frame[middle..end]);
         r = r + 1;
     }
 }
 
 // Number 1: an image that is not 640 bytes, or a frame buffer that is not 488.
 fn sizes_wrong(ram: usize, frame: usize) -> bool
-    ensures { λ r. ⌜ r ≡ sizesWrong ram frame ⌝ }
+    ensures { λ r. ⌜ r ≡ frameSizesWrong ram frame ⌝ }
 {
     if ram != IMAGE_BYTES {
         return true;
@@ -120,30 +117,16 @@ fn sizes_wrong(ram: usize, frame: usize) -> bool
 }
 
 // The frame that two chips and their image show, into a buffer of 488 bytes.
-pub fn frame(left: Chip, right: Chip, ram: &[u8], frame: &mut [u8]) -> Framed
-    ensures { λ r. ⌜ given r (now (frame .exit)) ≡ framed left right (now (ram .entry)) (now (frame .entry)) ⌝ }
+pub fn frame(left: Chip, right: Chip, ram: &[u8], frame: &mut [u8]) -> Verdict
+    ensures { λ r. ⌜ filled r (now (frame .exit)) ≡ framed (panelOf left right (now (ram .entry))) (now (frame .entry)) ⌝ }
 {
     if sizes_wrong(ram.len(), frame.len()) {
-        return Framed {
-            number: 1,
-            place: 0,
-        };
+        return Verdict::new(1, 0);
     }
-    if !left.in_range() {
-        return Framed {
-            number: 2,
-            place: 0,
-        };
+    let done = Verdict::new(0, FRAME_BYTES as u64);
+    let verdict = Verdict::unless(!left.in_range(), !right.in_range(), 2, done);
+    if verdict.number == 0 {
+        fill(left, right, ram, frame);
     }
-    if !right.in_range() {
-        return Framed {
-            number: 2,
-            place: 1,
-        };
-    }
-    fill(left, right, ram, frame);
-    Framed {
-        number: 0,
-        place: FRAME_BYTES as u64,
-    }
+    verdict
 }

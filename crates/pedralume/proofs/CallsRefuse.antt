@@ -10,18 +10,20 @@ use borrow.Author.Tests.{eqb-true, eqb-false}
 use Rattle.sed1520.specs.Chip.{inRange}
 use Rattle.sed1520.specs.declared.registers.Chip.{Chip}
 use Rattle.sed1520.proofs.RecordsUndo.{left-passes, right-passes}
-use Rattle.sed1520.proofs.Tests.{tested}
+use Rattle.basics.proofs.Tests.{tested}
+use Rattle.sed1520.specs.Panel.{panelOf}
+use Rattle.sed1520.specs.Verdict.{Filled}
 use Rattle.frame.specs.Frame.{framed}
-use Rattle.repaint.specs.Repaint.{chipsAnswer, repaintOf}
-use Rattle.pedralume.specs.Call.{BufferCall, answered, onChips, framedCall, repaintedCall}
+use Rattle.repaint.specs.Repaint.{chipsVerdict, repaintOf}
+use Rattle.pedralume.specs.Call.{packedWith, onChips, packedFilled}
 use Rattle.pedralume.specs.Refusals.{BufferRefused, CallsRefuse}
 use Rattle.pedralume.proofs.OnChips.{wrong-length, on-chips}
 
 -- a call whose callee gives number 1 for its sizes, then number 2 for the left chip, then for the right
-module _ (wrong : Bool) (chips buffer : List ℕ) (call : Chip → Chip → BufferCall)
-    (sizes : (l r : Chip) → wrong ≡ true → call l r ≡ answered buffer 1 0)
-    (left : (l r : Chip) → wrong ≡ false → inRange l ≡ false → call l r ≡ answered buffer 2 0)
-    (right : (l r : Chip) → wrong ≡ false → inRange l ≡ true → inRange r ≡ false → call l r ≡ answered buffer 2 1) where
+module _ (wrong : Bool) (chips buffer : List ℕ) (call : Chip → Chip → Filled ℕ)
+    (sizes : (l r : Chip) → wrong ≡ true → call l r ≡ packedWith buffer 1 0)
+    (left : (l r : Chip) → wrong ≡ false → inRange l ≡ false → call l r ≡ packedWith buffer 2 0)
+    (right : (l r : Chip) → wrong ≡ false → inRange l ≡ true → inRange r ≡ false → call l r ≡ packedWith buffer 2 1) where
   refuses : BufferRefused wrong chips buffer (onChips chips buffer call)
   refuses =
       record {
@@ -36,13 +38,13 @@ module _ (wrong : Bool) (chips buffer : List ℕ) (call : Chip → Chip → Buff
       }
 
 pub calls-refuse : CallsRefuse
-unfolding framed repaintOf chipsAnswer
+unfolding framed repaintOf chipsVerdict
 calls-refuse =
     record {
       frame =
-          λ chips ram buffer. refuses _ chips buffer (λ l r. framedCall (framed l r ram buffer))
+          λ chips ram buffer. refuses _ chips buffer (λ l r. packedFilled (framed (panelOf l r ram) buffer))
           (λ l r e. rw e) (λ l r s out. rw (s, out)) (λ l r s within out. rw (s, within, out));
       repaint =
-          λ chips picture buffer. refuses _ chips buffer (λ l r. repaintedCall (repaintOf l r picture buffer))
+          λ chips picture buffer. refuses _ chips buffer (λ l r. packedFilled (repaintOf l r picture buffer))
           (λ l r e. rw e) (λ l r s out. rw (s, out)) (λ l r s within out. rw (s, within, out));
     }

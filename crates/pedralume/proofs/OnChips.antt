@@ -1,16 +1,18 @@
 -- The calls that take chip records and fill a buffer: number 1 by the records' length, and the callee's answer past it.
-use Prim.Native.Nat.{ℕ}
-use mathlib.Core.Path.{_≡_, sym, _∙_}
+use Prim.Native.Nat.{ℕ, _<_}
+use mathlib.Core.Path.{_≡_, sym, ap, _∙_}
 use mathlib.Core.List.{List}
 use lib.ListN.{length}
 use borrow.Author.Tests.{eq-eqb, ne-eqb}
 use Rattle.sed1520.specs.ChipRecord.{chipsIn}
+use Rattle.sed1520.specs.Verdict.{Filled, filled}
+use Rattle.sed1520.specs.declared.verdict.Verdict.{Verdict}
 use Rattle.sed1520.specs.declared.chip_record.Chips.{Chips}
 use Rattle.sed1520.specs.declared.registers.Chip.{Chip}
-use Rattle.pedralume.specs.Call.{BufferCall, answered, onChips}
+use Rattle.pedralume.specs.Call.{packedWith, onChips, packedFilled}
 
-module _ (chips buffer : List ℕ) (call : Chip → Chip → BufferCall) where
-  pub wrong-length : (length chips ≡ 24 → ⊥) → onChips chips buffer call ≡ answered buffer 1 0
+module _ (chips buffer : List ℕ) (call : Chip → Chip → Filled ℕ) where
+  pub wrong-length : (length chips ≡ 24 → ⊥) → onChips chips buffer call ≡ packedWith buffer 1 0
   unfolding onChips
   wrong-length h = rw (ne-eqb (length chips) 24 h)
 
@@ -19,6 +21,10 @@ module _ (chips buffer : List ℕ) (call : Chip → Chip → BufferCall) where
   on-chips h = rw (eq-eqb (length chips) 24 h)
 
   -- what the callee gave on the chips that were read
-  pub called : length chips ≡ 24 → (both : Chips) → both ≡ chipsIn chips → (given : BufferCall) → given ≡ call (both .left) (both .right)
+  pub called : length chips ≡ 24 → (both : Chips) → both ≡ chipsIn chips → (given : Filled ℕ) → given ≡ call (both .left) (both .right)
       → given ≡ onChips chips buffer call
   called h both read given e = e ∙ rw read (sym (on-chips h))
+
+-- a place that fits, read off what the callee left
+pub place-fits : {v : Verdict} {buffer : List ℕ} (o : Filled Verdict) → filled v buffer ≡ o → o .verdict .place < 65536 → v .place < 65536
+place-fits o e h = rw (ap (λ (f : Filled Verdict). f .verdict .place) e) h

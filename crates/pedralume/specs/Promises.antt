@@ -5,7 +5,6 @@ use mathlib.Core.List.{List}
 use Rattle.sed1520.specs.Panel.{Panel}
 use Rattle.sed1520.specs.declared.registers.Chip.{Chip}
 use Rattle.trace.specs.Replay.{replayOf, replayInPlace}
-use Rattle.trace.specs.declared.Ran.{Ran}
 use Rattle.frame.specs.Frame.{framed}
 use Rattle.repaint.specs.Repaint.{repaintOf}
 use Rattle.pedralume.specs.Call.{packed}
@@ -17,19 +16,18 @@ pub record Unpacks (n at compared differing : ℕ) : Type 0 where
   pub compared-of : packed n at compared differing / 2 ^ 24 % 65536 ≡ compared
   pub differing-of : packed n at compared differing / 2 ^ 40 ≡ differing
 
--- place and counts of a replay's answer are below 65,536
-pub record SmallRan (r : Ran) : Type 0 where
-  pub place : r .place < 65536
-  pub compared : r .compared < 65536
-  pub differing : r .differing < 65536
+-- place and counts below 65,536
+pub record Small (place compared differing : ℕ) : Type 0 where
+  pub place-small : place < 65536
+  pub compared-small : compared < 65536
+  pub differing-small : differing < 65536
 
--- so it is where the number is a byte, as the code's is, and place and compared count below 65,536; which they are in all that the calls
--- give back, and so is differing; and in a replay by value
+-- the parts are read back where the number is a byte, as the code's is, and place and compared are below 65,536; place and both counts are so in all
+-- that the calls give back, and in a replay by value
 pub record AnswersUnpack : Type 0 where
   pub parts : (n at compared differing : ℕ) → n < 256 → at < 65536 → compared < 65536 → Unpacks n at compared differing
-  pub replay : (chips ram trace answers : List ℕ) → SmallRan (replayInPlace chips ram trace answers .answer)
-  pub replay-place : (p : Panel) (trace answers : List ℕ) → replayOf p trace answers .place < 65536
-  pub replay-compared : (p : Panel) (trace answers : List ℕ) → replayOf p trace answers .compared < 65536
-  pub replay-differing : (p : Panel) (trace answers : List ℕ) → replayOf p trace answers .differing < 65536
-  pub frame-place : (left right : Chip) (ram frame : List ℕ) → framed left right ram frame .answer .place < 65536
-  pub repaint-place : (left right : Chip) (picture buffer : List ℕ) → repaintOf left right picture buffer .answer .place < 65536
+  pub replay : (chips ram trace answers : List ℕ) → let a = replayInPlace chips ram trace answers .answer in
+      Small (a .place) (a .compared) (a .differing)
+  pub replay-by-value : (p : Panel) (trace answers : List ℕ) → let o = replayOf p trace answers in Small (o .place) (o .compared) (o .differing)
+  pub frame-place : (p : Panel) (buffer : List ℕ) → framed p buffer .verdict .place < 65536
+  pub repaint-place : (left right : Chip) (picture buffer : List ℕ) → repaintOf left right picture buffer .verdict .place < 65536

@@ -5,20 +5,21 @@ use mathlib.Core.Bool.{Bool, true, false}
 use mathlib.Core.List.{List}
 use lib.ListN.{length, take, drop}
 use Rattle.sed1520.specs.ChipRecord.{recordRight}
-use Rattle.pedralume.specs.Call.{BufferCall, answered, frameCall, repaintCall}
-use Rattle.frame.specs.Frame as frame
-use Rattle.repaint.specs.Repaint as repaint
+use Rattle.pedralume.specs.Call.{packedWith, frameCall, repaintCall}
+use Rattle.sed1520.specs.Verdict.{Filled}
+use Rattle.frame.specs.Frame.{frameSizesWrong}
+use Rattle.repaint.specs.Repaint.{repaintSizesWrong}
 
 -- each number where those before it have no cause, left chip before right; a wrong size is number 1 whatever the chip records hold
-pub record BufferRefused (wrong : Bool) (chips buffer : List ℕ) (call : BufferCall) : Type 0 where
-  pub chips-wrong : (length chips ≡ 24 → ⊥) → call ≡ answered buffer 1 0
-  pub sizes-wrong : wrong ≡ true → call ≡ answered buffer 1 0
-  pub left-wrong : length chips ≡ 24 → wrong ≡ false → recordRight (take 12 chips) ≡ false → call ≡ answered buffer 2 0
+pub record BufferRefused (wrong : Bool) (chips buffer : List ℕ) (call : Filled ℕ) : Type 0 where
+  pub chips-wrong : (length chips ≡ 24 → ⊥) → call ≡ packedWith buffer 1 0
+  pub sizes-wrong : wrong ≡ true → call ≡ packedWith buffer 1 0
+  pub left-wrong : length chips ≡ 24 → wrong ≡ false → recordRight (take 12 chips) ≡ false → call ≡ packedWith buffer 2 0
   pub right-wrong : length chips ≡ 24 → wrong ≡ false → recordRight (take 12 chips) ≡ true → recordRight (drop 12 chips) ≡ false
-      → call ≡ answered buffer 2 1
+      → call ≡ packedWith buffer 2 1
 
 -- of the frame and of the repaint
 pub record CallsRefuse : Type 0 where
-  pub frame : (chips ram buffer : List ℕ) → BufferRefused (frame.sizesWrong (length ram) (length buffer)) chips buffer (frameCall chips ram buffer)
+  pub frame : (chips ram buffer : List ℕ) → BufferRefused (frameSizesWrong (length ram) (length buffer)) chips buffer (frameCall chips ram buffer)
   pub repaint : (chips picture buffer : List ℕ)
-      → BufferRefused (repaint.sizesWrong (length picture) (length buffer)) chips buffer (repaintCall chips picture buffer)
+      → BufferRefused (repaintSizesWrong (length picture) (length buffer)) chips buffer (repaintCall chips picture buffer)

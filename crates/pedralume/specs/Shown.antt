@@ -7,18 +7,11 @@ use Rattle.sed1520.specs.Panel.{Panel, after}
 use Rattle.sed1520.specs.Records.{wholeRecords}
 use Rattle.trace.specs.Promises.{Runs}
 use Rattle.trace.specs.Replay.{replayOf}
-use Rattle.frame.specs.Frame.{Outcome, outcome, frameBytes, frameOf, framed}
+use Rattle.sed1520.specs.Verdict.{verdict, filled}
+use Rattle.frame.specs.Frame.{frameBytes, frameOf, framed}
 
--- what the frame gives of a panel
-abbrev pub framedPanel : Panel → List ℕ → Outcome
-framedPanel p buffer = framed (p .left) (p .right) (p .ram) buffer
-
--- the frame of a panel, given with number 0 and place 488
-abbrev pub framedWhole : Panel → Outcome
-framedWhole p = outcome 0 frameBytes (frameOf (p .left) (p .right) (p .ram))
-
--- the panel that the replay of the first k records leaves has a frame: that of the panel after these k records
+-- the panel that the replay of the first k records leaves has a frame, given with number 0 and place 488: that of the panel after these k records
 abbrev pub ShownAfterEachRecord : Type 0
 ShownAfterEachRecord =
     (p : Panel) (trace answers buffer : List ℕ) → Runs p trace answers → length buffer ≡ frameBytes → (k : ℕ) → k ≤ replayOf p trace answers .place
-    → framedPanel (replayOf p (take (4 * k) trace) answers .panel) buffer ≡ framedWhole (after p (take k (wholeRecords trace)))
+    → framed (replayOf p (take (4 * k) trace) answers .panel) buffer ≡ filled (verdict 0 frameBytes) (frameOf (after p (take k (wholeRecords trace))))

@@ -2,7 +2,9 @@
 mod packing;
 
 ghost use mathlib.Core.Path.{_≡_};
-ghost use Rattle.pedralume.specs.Call.{replayCallOf, replayCall, bufferCallOf, frameCall, repaintCall};
+ghost use Rattle.pedralume.specs.Call.{replayCall, frameCall, repaintCall};
+ghost use Rattle.sed1520.specs.Verdict.{filled};
+ghost use Rattle.trace.specs.Replay.{inPlace};
 use crate::packing::pack;
 use sed1520::chip_record::CHIPS_BYTES;
 use sed1520::chip_record::chips_in;
@@ -15,7 +17,7 @@ pub extern "C" fn pedralume_replay(
     trace: &[u8],
     answers: &mut [u8],
 ) -> u64
-    ensures { λ r. ⌜ replayCallOf r (now (chips .exit)) (now (ram .exit)) (now (answers .exit))
+    ensures { λ r. ⌜ inPlace r (now (chips .exit)) (now (ram .exit)) (now (answers .exit))
         ≡ replayCall (now (chips .entry)) (now (ram .entry)) (now (trace .entry)) (now (answers .entry)) ⌝ }
 {
     let ran = trace::replay_in_place(chips, ram, trace, answers);
@@ -25,7 +27,7 @@ pub extern "C" fn pedralume_replay(
 // The frame that two chip records and the image show, into a frame buffer.
 #[no_mangle]
 pub extern "C" fn pedralume_frame(chips: &[u8], ram: &[u8], frame: &mut [u8]) -> u64
-    ensures { λ r. ⌜ bufferCallOf r (now (frame .exit)) ≡ frameCall (now (chips .entry)) (now (ram .entry)) (now (frame .entry)) ⌝ }
+    ensures { λ r. ⌜ filled r (now (frame .exit)) ≡ frameCall (now (chips .entry)) (now (ram .entry)) (now (frame .entry)) ⌝ }
 {
     if chips.len() != CHIPS_BYTES {
         return pack(1, 0, 0, 0);
@@ -40,7 +42,7 @@ pub extern "C" fn pedralume_frame(chips: &[u8], ram: &[u8], frame: &mut [u8]) ->
 // The records that bring a picture to the panel of two chip records, into an output buffer.
 #[no_mangle]
 pub extern "C" fn pedralume_repaint(chips: &[u8], picture: &[u8], output: &mut [u8]) -> u64
-    ensures { λ r. ⌜ bufferCallOf r (now (output .exit)) ≡ repaintCall (now (chips .entry)) (now (picture .entry)) (now (output .entry)) ⌝ }
+    ensures { λ r. ⌜ filled r (now (output .exit)) ≡ repaintCall (now (chips .entry)) (now (picture .entry)) (now (output .entry)) ⌝ }
 {
     if chips.len() != CHIPS_BYTES {
         return pack(1, 0, 0, 0);

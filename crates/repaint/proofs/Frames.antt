@@ -4,26 +4,21 @@ use mathlib.Core.Path.{_≡_, ap, _∙_}
 use mathlib.Core.List.{List}
 use lib.ListN.{length, replicate, length-replicate}
 use Rattle.sed1520.specs.Panel.{Panel}
-use Rattle.frame.specs.Frame.{frameBytes, frameOf, Outcome, outcome, framed}
+use Rattle.sed1520.specs.Verdict.{verdict, Filled, filled}
+use Rattle.sed1520.specs.declared.verdict.Verdict.{Verdict}
+use Rattle.frame.specs.Frame.{frameBytes, frameOf, framed}
 use Rattle.frame.proofs.FrameCases.{every-frame-given}
 use Rattle.frame.proofs.HalfLaws.{half-laws}
 use Rattle.repaint.specs.TearFree.{BothReady, shown, FrameGiven}
-
--- the frame, as the panel stands
-abbrev pub frameAt : Panel → List ℕ
-frameAt p = frameOf (p .left) (p .right) (p .ram)
+use Rattle.repaint.proofs.Quiet.{ready-whole}
 
 module _ (p : Panel) (ready : BothReady p) where
-  call : (buffer : List ℕ) → length buffer ≡ frameBytes → framed (p .left) (p .right) (p .ram) buffer ≡ outcome 0 frameBytes (frameAt p)
-  call buffer size = every-frame-given (p .left) (p .right) (p .ram) buffer (ready .left .range) (ready .right .range) (ready .ram) size
+  call : (buffer : List ℕ) → length buffer ≡ frameBytes → framed p buffer ≡ filled (verdict 0 frameBytes) (frameOf p)
+  call buffer size = every-frame-given p buffer (ready-whole p ready) size
 
-  pub shown-frame : shown p ≡ frameAt p
+  pub shown-frame : shown p ≡ frameOf p
   unfolding shown
-  shown-frame = ap (λ (o : Outcome). o .frame) (call (replicate frameBytes 0) (length-replicate {A = ℕ} frameBytes 0))
+  shown-frame = ap (λ (o : Filled Verdict). o .buffer) (call (replicate frameBytes 0) (length-replicate {A = ℕ} frameBytes 0))
 
   pub frame-given : FrameGiven p
-  frame-given =
-      record {
-        bytes = rw shown-frame (half-laws .whole (p .left) (p .right) (p .ram));
-        given = λ buffer size. call buffer size ∙ rw shown-frame;
-      }
+  frame-given = record { bytes = rw shown-frame (half-laws .whole p); given = λ buffer size. call buffer size ∙ rw shown-frame }

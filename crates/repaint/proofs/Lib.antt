@@ -1,15 +1,14 @@
 pub mod Frames
-pub mod Walk
 pub mod Sides
 pub mod Quiet
 pub mod Painting
 pub mod Small
 pub mod Page
 pub mod Turn
+pub mod Plan
+pub mod Pages
 pub mod Counts
 pub mod Bytes
-pub mod Sent
-pub mod Whole
 pub mod RepaintCases
 pub mod ReadyChips
 pub mod TearFree

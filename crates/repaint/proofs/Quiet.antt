@@ -1,175 +1,160 @@
--- A panel that shows what it showed: switches and shown RAM as they were.
-use Prim.Native.Nat.{ℕ, _+_, _-_, _*_, _/_, _%_, _<_}
+-- A panel that shows what it showed: switches, start lines and the bytes of the shown pages as they were.
+use Prim.Native.Nat.{ℕ, _+_, _/_, _<_, _≤_}
 use native.Mathlib.Omega.{arith}
-use mathlib.Core.Path.{_≡_, refl, sym, _∙_}
-use mathlib.Core.Bool.{true, false, not, _&&_}
+use mathlib.Core.Path.{_≡_, refl, sym, ap, _∙_}
+use mathlib.Core.Bool.{true}
 use mathlib.Core.List.{List}
 use mathlib.Core.Logic.{_⊎_, inl, inr, ⊎-elim}
-use lib.Dec.{eqb, leb, ltb}
+use lib.Dec.{eqb, ltb}
 use lib.ListN.{length, getD}
 use lib.Seq.{ext-getD}
-use borrow.Author.Tests.{eqb-true, leb-false, ltb-true, ltb-false, not-true}
+use borrow.Author.Tests.{eqb-true, ltb-true, ltb-false}
+use Rattle.basics.proofs.Tests.{tested, either, when}
 use Rattle.sed1520.specs.Chip.{inRange}
-use Rattle.sed1520.specs.Memory.{ramIndex}
+use Rattle.sed1520.specs.Memory.{byteAt}
 use Rattle.sed1520.specs.Panel.{Panel, chipAt, ramAt}
-use Rattle.sed1520.specs.Laws.{Registers, registers, Fit}
+use Rattle.sed1520.specs.Laws.{ShownRegisters, shownBy, Registers, registers, Whole}
 use Rattle.sed1520.specs.declared.registers.Chip.{Chip}
-use Rattle.sed1520.proofs.Tests.{tested, either, both, when}
-use Rattle.sed1520.proofs.PanelLaws.{every-half-whole}
-use Rattle.frame.specs.Frame.{segments, columns, frameBytes, columnOf}
-use Rattle.frame.specs.Laws.{firstColumn, showsRam, byteShown, SameShown}
+use Rattle.sed1520.proofs.WholePanel.{whole-fit}
+use Rattle.frame.specs.Frame.{segments, frameBytes, columnOf, frameByte, frameOf, framePlace}
+use Rattle.frame.specs.Laws.{TwoPages}
 use Rattle.frame.proofs.HalfLaws.{half-laws}
+use Rattle.frame.proofs.Places.{place-laws}
 use Rattle.repaint.specs.TearFree.{Ready, BothReady, SameHalf}
-use Rattle.repaint.proofs.Frames.{frameAt}
+use Rattle.repaint.proofs.Sides.{same-side, Moved}
 
--- equal switches and start line
-pub record Switches (a b : Registers) : Type 0 where
-  pub display : a .display ≡ b .display
-  pub static : a .static ≡ b .static
-  pub duty : a .duty ≡ b .duty
-  pub reverse : a .reverse ≡ b .reverse
-  pub modify : a .modify ≡ b .modify
-  pub line : a .line ≡ b .line
+-- the page that a chip shows in the eight rows from 8 r, by its start line
+abbrev pub shownPage : Chip → ℕ → ℕ
+shownPage c r = c .«start_line» / 8 + r
 
--- registers with another page and column
-abbrev pub placed : Registers → ℕ → ℕ → Registers
-placed a page column =
-    record {
-      display = a .display;
-      static = a .static;
-      duty = a .duty;
-      reverse = a .reverse;
-      modify = a .modify;
-      page = page;
-      line = a .line;
-      column = column;
-    }
-
--- wherever page and column stand, the switches are the same
-pub placed-switches : (a : Registers) (page column page′ column′ : ℕ) → Switches (placed a page column) (placed a page′ column′)
-placed-switches a page column page′ column′ = record { display = refl; static = refl; duty = refl; reverse = refl; modify = refl; line = refl }
-
-pub same-switches : (a : Registers) → Switches a a
-same-switches a = placed-switches a (a .page) (a .column) (a .page) (a .column)
-
--- one half shows what it showed: equal switches, equal bytes in the shown pages
+-- one half shows what it showed
 pub record Still (c d : Chip) (ram other : List ℕ) : Type 0 where
-  pub switches : Switches (registers c) (registers d)
-  pub kept : (at : ℕ) → at / 160 ≡ c .«start_line» / 16 → getD other at 0 ≡ getD ram at 0
+  pub shown : shownBy c ≡ shownBy d
+  pub modify : c .modify ≡ d .modify
+  pub kept : (r column : ℕ) → r < 2 → column < 80 → byteAt other (shownPage c r) column ≡ byteAt ram (shownPage c r) column
 
 -- both halves do
 pub record Quiet (p q : Panel) : Type 0 where
-  pub image : length (q .ram) ≡ 640
-  pub fit : (k : ℕ) → Fit (chipAt q k) (ramAt q k)
+  pub whole : Whole q
   pub still : (k : ℕ) → Still (chipAt p k) (chipAt q k) (ramAt p k) (ramAt q k)
 
--- either chip of a ready panel
+-- ready chips, by side
 pub ready-at : (p : Panel) → BothReady p → (k : ℕ) → Ready (chipAt p k)
 ready-at p ready k = when Ready (eqb k 0) (λ _. ready .left) (λ _. ready .right)
 
-pub line-of : (c : Chip) → Ready c → (c .«start_line» ≡ 0) ⊎ (c .«start_line» ≡ 16)
-line-of c ready =
-    ⊎-elim
-    (λ t. inl (eqb-true (c .«start_line») 0 t))
-    (λ t. inr (eqb-true (c .«start_line») 16 t))
-    (either (eqb (c .«start_line») 0) (eqb (c .«start_line») 16) (ready .line))
+pub ready-whole : (p : Panel) → BothReady p → Whole p
+ready-whole p ready = record { left = ready .left .range; right = ready .right .range; image = ready .ram }
 
--- at duty 1/16 only rows 0 to 15 show RAM
-upper-row : (c : Chip) (row : ℕ) → c .«duty_32» ≡ false → showsRam c row ≡ true → row < 16
-upper-row c row duty shows =
-    let on = both (c .«display_on») (not (c .«static_on») && not (not (c .«duty_32») && leb 16 row)) shows in
-    let driven = both (not (c .«static_on»)) (not (not (c .«duty_32») && leb 16 row)) (on .1) in
-    let hidden = rw duty at (driven .1) in
-    leb-false 16 row (not-true (leb 16 row) hidden)
+pub two-pages : (c : Chip) → Ready c → TwoPages c
+two-pages c ready =
+    record {
+      display = ready .display;
+      static = ready .static;
+      duty = ready .duty;
+      line =
+          ⊎-elim
+          (λ t. inl (eqb-true (c .«start_line») 0 t))
+          (λ t. inr (eqb-true (c .«start_line») 16 t))
+          (either (eqb (c .«start_line») 0) (eqb (c .«start_line») 16) (ready .line));
+    }
 
--- the byte of a shown row lies in the shown pages
-row-inside : (line row column : ℕ) → (line ≡ 0) ⊎ (line ≡ 16) → row < 16 → column < 80 → ramIndex ((line + row) % 32 / 8) column / 160 ≡ line / 16
-row-inside line row column h r c = ⊎-elim (λ e. omega arith) (λ e. omega arith) h
+-- what a ready chip shows, and the mode, leave a chip in range ready
+pub still-ready : (c d : Chip) → Ready c → inRange d ≡ true → shownBy c ≡ shownBy d → c .modify ≡ d .modify → Ready d
+still-ready c d ready range shown modify =
+    record {
+      range = range;
+      display = ap (λ (s : ShownRegisters). s .display) (sym shown) ∙ ready .display;
+      static = ap (λ (s : ShownRegisters). s .static) (sym shown) ∙ ready .static;
+      duty = ap (λ (s : ShownRegisters). s .duty) (sym shown) ∙ ready .duty;
+      line = let line = ap (λ (s : ShownRegisters). s .line) shown in rw (← line) (ready .line);
+      modify = sym modify ∙ ready .modify;
+    }
 
--- such a half of the frame is as it was
-module _ (p q : Panel) (ready : BothReady p) (k : ℕ) (still : Still (chipAt p k) (chipAt q k) (ramAt p k) (ramAt q k)) where
-  abbrev c : Chip
-  c = chipAt p k
+module _ (p q : Panel) (ready : BothReady p) (quiet : Quiet p q) where
+  pub quiet-at : (k : ℕ) → Ready (chipAt q k)
+  quiet-at k =
+      let still = quiet .still k in
+      still-ready (chipAt p k) (chipAt q k) (ready-at p ready k) (whole-fit q (quiet .whole) k .range) (still .shown) (still .modify)
 
-  row-kept : (n row : ℕ) → n < segments → showsRam c row ≡ true → byteShown c (ramAt p k) n row ≡ byteShown c (ramAt q k) n row
-  row-kept n row h shows =
-      let own = ready-at p ready k in
-      let inside = row-inside (c .«start_line») row (columnOf c n) (line-of c own) (upper-row c row (own .duty) shows) (half-laws .near c n h) in
-      sym (still .kept (ramIndex ((c .«start_line» + row) % 32 / 8) (columnOf c n)) inside)
-
-  same-shown : (n : ℕ) → n < segments → SameShown (chipAt p k) (chipAt q k) (ramAt p k) (ramAt q k) n
-  same-shown n h =
-      let same = still .switches in
-      record {
-        display = same .display;
-        static = same .static;
-        duty = same .duty;
-        direction = same .reverse;
-        line = same .line;
-        bytes = λ row below shows. row-kept n row h shows;
-      }
-
-  pub half-same : SameHalf k (frameAt q) (frameAt p)
-  half-same =
-      record {
-        at = λ n r h l.
-            half-laws .place q k n r h l
-            ∙ sym (half-laws .depends (chipAt p k) (chipAt q k) (ramAt p k) (ramAt q k) n r l (same-shown n h))
-            ∙ sym (half-laws .place p k n r h l);
-      }
-
--- every place of a frame lies in a half
-module _ (one other : List ℕ) (left : SameHalf 0 one other) (right : SameHalf 1 one other) where
-  at-place : (i : ℕ) → i < frameBytes → getD one i 0 ≡ getD other i 0
-  at-place i h =
-      ⊎-elim
-      (λ t. let l = ltb-true (i % columns) segments t in
-      let e : firstColumn 0 + i % columns + columns * (i / columns) ≡ i = omega arith in
-      rw e at (left .at (i % columns) (i / columns) l (omega arith)))
-      (λ t. let l = ltb-false (i % columns) segments t in
-      let e : firstColumn 1 + (i % columns - segments) + columns * (i / columns) ≡ i = omega arith in
-      rw e at (right .at (i % columns - segments) (i / columns) (omega arith) (omega arith)))
-      (tested (ltb (i % columns) segments))
-
-  pub halves-same : length one ≡ frameBytes → length other ≡ frameBytes → one ≡ other
-  halves-same h l = ext-getD 0 one other (h ∙ sym l) (λ i below. at-place i (omega arith))
-
-pub frame-length : (p : Panel) → length (frameAt p) ≡ frameBytes
-frame-length p = half-laws .whole (p .left) (p .right) (p .ram)
-
-pub quiet-frame : (p q : Panel) → BothReady p → Quiet p q → frameAt q ≡ frameAt p
-quiet-frame p q ready quiet =
-    halves-same (frameAt q) (frameAt p)
-    (half-same p q ready 0 (quiet .still 0))
-    (half-same p q ready 1 (quiet .still 1))
-    (frame-length q)
-    (frame-length p)
+  pub quiet-ready : BothReady q
+  quiet-ready = record { left = quiet-at 0; right = quiet-at 1; ram = quiet .whole .image }
 
 -- a panel is quiet where it begins
 pub quiet-at-start : (p : Panel) → BothReady p → Quiet p p
-quiet-at-start p ready =
+quiet-at-start p ready = record { whole = ready-whole p ready; still = λ k. record { shown = refl; modify = refl; kept = λ r column h l. refl } }
+
+-- a ready half that shows what it showed has the same bytes in the frame
+module _ (c d : Chip) (ram other : List ℕ) (ready : Ready c) (after : Ready d) (still : Still c d ram other) (n r : ℕ) (segment : n < segments) where
+  upper-same : r < 2 → frameByte d other n r ≡ frameByte c ram n r
+  upper-same h =
+      let column = ap (λ (s : ShownRegisters). s .reverse) (still .shown) in
+      let line = ap (λ (s : ShownRegisters). s .line) (still .shown) in
+      let kept = still .kept r (columnOf c n) h (half-laws .column c n segment) in
+      half-laws .upper d other n r (two-pages d after) h
+      ∙ rw (← line, ← column, kept) (sym (half-laws .upper c ram n r (two-pages c ready) h))
+
+  pub byte-same : frameByte d other n r ≡ frameByte c ram n r
+  byte-same =
+      ⊎-elim
+      (λ t. upper-same (ltb-true r 2 t))
+      (λ t. let below = ltb-false r 2 t in
+      half-laws .lower d other n r (two-pages d after) below ∙ sym (half-laws .lower c ram n r (two-pages c ready) below))
+      (tested (ltb r 2))
+
+pub half-same : (p q : Panel) (k : ℕ) → Ready (chipAt p k) → Ready (chipAt q k) → Still (chipAt p k) (chipAt q k) (ramAt p k) (ramAt q k)
+    → SameHalf k (frameOf q) (frameOf p)
+half-same p q k ready after still =
     record {
-      image = ready .ram;
-      fit = λ k. record { range = ready-at p ready k .range; bytes = every-half-whole p (ready .ram) k };
-      still = λ k. record { switches = same-switches (registers (chipAt p k)); kept = λ at h. refl };
+      at = λ n r h l.
+          half-laws .place q k n r h l
+          ∙ byte-same (chipAt p k) (chipAt q k) (ramAt p k) (ramAt q k) ready after still n r h
+          ∙ sym (half-laws .place p k n r h l);
     }
 
--- the same switches leave a chip ready
-pub still-ready : (c d : Chip) → Ready c → inRange d ≡ true → Switches (registers c) (registers d) → Ready d
-still-ready c d ready range same =
-    record {
-      range = range;
-      display = sym (same .display) ∙ ready .display;
-      static = sym (same .static) ∙ ready .static;
-      duty = sym (same .duty) ∙ ready .duty;
-      line = let e = same .line in rw (sym e) (ready .line);
-      modify = sym (same .modify) ∙ ready .modify;
-    }
+-- every place of a frame lies in a half
+pub halves-same : (one other : List ℕ) → SameHalf 0 one other → SameHalf 1 one other → length one ≡ frameBytes → length other ≡ frameBytes
+    → one ≡ other
+halves-same one other left right h l = ext-getD 0 one other (h ∙ sym l) (λ i below. at-place i (omega arith))
+  where
+    at-side : (k n r : ℕ) → k < 2 → n < segments → r < 4 → getD one (framePlace k n r) 0 ≡ getD other (framePlace k n r) 0
+    at-side k n r side segment row =
+        ⊎-elim
+        (λ t. let e : k ≡ 0 = omega (arith, ltb-true k 1 t) in rw e (left .at n r segment row))
+        (λ t. let e : k ≡ 1 = omega (arith, ltb-false k 1 t) in rw e (right .at n r segment row))
+        (tested (ltb k 1))
 
-pub quiet-ready : (p q : Panel) → BothReady p → Quiet p q → BothReady q
-quiet-ready p q ready quiet =
+    at-place : (i : ℕ) → i < frameBytes → getD one i 0 ≡ getD other i 0
+    at-place i below =
+        let place = place-laws .every i 4 below in
+        rw (place .here) (at-side (place .chip) (place .segment) (place .row) (place .either) (place .driven) (place .within))
+
+pub quiet-frame : (p q : Panel) → BothReady p → Quiet p q → frameOf q ≡ frameOf p
+quiet-frame p q ready quiet =
+    halves-same (frameOf q) (frameOf p) (half 0) (half 1) (half-laws .whole q) (half-laws .whole p)
+  where
+    half : (k : ℕ) → SameHalf k (frameOf q) (frameOf p)
+    half k = half-same p q k (ready-at p ready k) (quiet-at p q ready quiet k) (quiet .still k)
+
+-- a record that leaves what its chip shows, its mode and the shown bytes leaves the panel quiet
+pub quiet-moved : (p q s : Panel) (k : ℕ) (next : Registers) (bytes : List ℕ) → Quiet p q → Moved q s k next bytes
+    → shownBy (chipAt q k) ≡ next .shown → chipAt q k .modify ≡ next .modify
+    → ((r column : ℕ) → r < 2 → column < 80 → byteAt bytes (shownPage (chipAt p k) r) column ≡ byteAt (ramAt q k) (shownPage (chipAt p k) r) column)
+    → Quiet p s
+quiet-moved p q s k next bytes quiet move shown modify kept =
     record {
-      left = still-ready (p .left) (q .left) (ready .left) (quiet .fit 0 .range) (quiet .still 0 .switches);
-      right = still-ready (p .right) (q .right) (ready .right) (quiet .fit 1 .range) (quiet .still 1 .switches);
-      ram = quiet .image;
+      whole = move .whole;
+      still = λ j.
+          ⊎-elim
+          (λ e. rw e own)
+          (λ d. rw (move .other-chip j d, move .other-ram j d) (quiet .still j))
+          (same-side j k);
     }
+  where
+    own : Still (chipAt p k) (chipAt s k) (ramAt p k) (ramAt s k)
+    own =
+        let still = quiet .still k in
+        record {
+          shown = still .shown ∙ shown ∙ ap (λ (g : Registers). g .shown) (sym (move .registers-after));
+          modify = still .modify ∙ modify ∙ ap (λ (g : Registers). g .modify) (sym (move .registers-after));
+          kept = λ r column h l. rw (move .ram-after) (kept r column h l ∙ still .kept r column h l);
+        }

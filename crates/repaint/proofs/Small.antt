@@ -3,7 +3,7 @@ use Prim.Native.Nat.{ℕ, _<_, _≤_}
 use native.Mathlib.Omega.{arith}
 use lib.Dec.{eqb}
 use Rattle.sed1520.specs.declared.registers.Chip.{Chip}
-use Rattle.sed1520.proofs.Tests.{when}
+use Rattle.basics.proofs.Tests.{when}
 use Rattle.frame.specs.Frame.{segments}
 use Rattle.repaint.specs.Repaint.{hiddenPage, lowestColumn, segmentOf, turnedLine}
 

@@ -6,7 +6,7 @@ use mathlib.Core.List.{List, [], _∷_}
 use lib.ListN.{length, take, drop}
 use Rattle.sed1520.specs.declared.registers.Chip.{Chip}
 use Rattle.frame.specs.Examples.{FrameExamples}
-use Rattle.repaint.specs.Repaint.{sizesWrong, repaintOf}
+use Rattle.repaint.specs.Repaint.{repaintSizesWrong, repaintOf}
 use Rattle.repaint.specs.TearFree.{Ready}
 
 -- the setting of P12: both ready, both start lines 0, left chip reverse; picture and output buffer of the right sizes
@@ -16,7 +16,7 @@ pub record LeftReverse (left right : Chip) (picture buffer : List ℕ) : Type 0 
   pub left-line : left .«start_line» ≡ 0
   pub right-line : right .«start_line» ≡ 0
   pub reverse : left .reverse ≡ true
-  pub sizes : sizesWrong (length picture) (length buffer) ≡ false
+  pub sizes : repaintSizesWrong (length picture) (length buffer) ≡ false
 
 -- P1 to P11, and P12: the first two records and the last two
 pub record Examples : Type 0 where

@@ -1,21 +1,22 @@
 -- Demand 3 of the minutes: of a repaint's 254 cycles only the last two can change what the panel shows, the left half first. So a repaint tears
--- the panel (document 00: a mixed name) only between these two; stopped just there, the panel stays so until a later repaint is sent whole. One
+-- the panel (the minutes: a mixed name) only between these two; stopped just there, the panel stays torn until a later repaint is sent whole. One
 -- statement about a whole list of repaints, from any panel whose chips are both ready, each repaint beginning where the one before it left the
 -- panel, each stopped after any whole cycle.
-use Prim.Native.Nat.{ℕ, _+_, _*_, _≤_, _<_}
+use Prim.Native.Nat.{ℕ, _*_, _≤_, _<_}
 use mathlib.Core.Path.{_≡_}
 use mathlib.Core.Bool.{true, false, _||_}
 use mathlib.Core.List.{List, [], _∷_, _++_}
 use lib.Dec.{eqb}
 use lib.ListN.{length, getD, drop, replicate}
-use Rattle.sed1520.specs.Choice.{if}
+use Rattle.basics.specs.Choice.{if}
 use Rattle.sed1520.specs.Chip.{inRange}
 use Rattle.sed1520.specs.Panel.{Panel, outcomeOf, after}
 use Rattle.sed1520.specs.Records.{front, recordsIn}
 use Rattle.sed1520.specs.declared.registers.Chip.{Chip}
-use Rattle.frame.specs.Frame.{segments, columns, frameBytes, outcome, framed}
-use Rattle.frame.specs.Laws.{firstColumn}
-use Rattle.repaint.specs.Repaint.{Outcome, sizesWrong, repaintOf}
+use Rattle.sed1520.specs.declared.verdict.Verdict.{Verdict}
+use Rattle.sed1520.specs.Verdict.{verdict, Filled, filled}
+use Rattle.frame.specs.Frame.{segments, frameBytes, framePlace, framed}
+use Rattle.repaint.specs.Repaint.{pictureBytes, repaintSizesWrong, repaintOf}
 
 -- a chip that a repaint takes
 pub record Ready (c : Chip) : Type 0 where
@@ -41,7 +42,7 @@ pub record Request : Type 0 where
   pub within : stop ≤ 254
 
 -- what the repaint gives back, called with the chips as they stand
-abbrev pub asked : Panel → Request → Outcome
+abbrev pub asked : Panel → Request → Filled Verdict
 asked p q = repaintOf (p .left) (p .right) (q .picture) (q .buffer)
 
 -- the panel after the first k records of the buffer
@@ -50,30 +51,30 @@ sentSoFar p q k = after p (recordsIn (asked p q .buffer) k)
 
 -- where a repaint leaves the panel: done, the cycles that are sent have had their whole effect; refused, none is given
 abbrev pub leaves : Panel → Request → Panel
-leaves p q = if (eqb (asked p q .answer .number) 0) (sentSoFar p q (q .stop)) p
+leaves p q = if (eqb (asked p q .verdict .number) 0) (sentSoFar p q (q .stop)) p
 
 -- what the panel shows: the bytes that the frame's call leaves in a buffer of 488, called as the panel stands; what the buffer held, here 0, does
 -- not matter (FrameGiven)
 unfoldable pub shown : Panel → List ℕ
-shown p = framed (p .left) (p .right) (p .ram) (replicate frameBytes 0) .frame
+shown p = framed p (replicate frameBytes 0) .buffer
 
 -- these are 488 bytes, and the call gives them, with number 0 and place 488, into any buffer of 488
 pub record FrameGiven (p : Panel) : Type 0 where
   pub bytes : length (shown p) ≡ frameBytes
-  pub given : (buffer : List ℕ) → length buffer ≡ frameBytes → framed (p .left) (p .right) (p .ram) buffer ≡ outcome 0 frameBytes (shown p)
+  pub given : (buffer : List ℕ) → length buffer ≡ frameBytes → framed p buffer ≡ filled (verdict 0 frameBytes) (shown p)
 
 -- the frame that a picture asks for: the picture in the upper 16 rows, the lower 16 dark
 abbrev pub wanted : List ℕ → List ℕ
-wanted picture = picture ++ replicate 244 0
+wanted picture = picture ++ replicate pictureBytes 0
 
 -- two frames show the same in a chip's half
 pub record SameHalf (chip : ℕ) (one other : List ℕ) : Type 0 where
-  pub at : (n r : ℕ) → n < segments → r < 4 → getD one (firstColumn chip + n + columns * r) 0 ≡ getD other (firstColumn chip + n + columns * r) 0
+  pub at : (n r : ℕ) → n < segments → r < 4 → getD one (framePlace chip n r) 0 ≡ getD other (framePlace chip n r) 0
 
 -- refused with number 1: buffer and panel as they were, and the frame of that panel given
 pub record Refused (p : Panel) (q : Request) : Type 0 where
-  pub number : asked p q .answer .number ≡ 1
-  pub place : asked p q .answer .place ≡ 0
+  pub number : asked p q .verdict .number ≡ 1
+  pub place : asked p q .verdict .place ≡ 0
   pub buffer : asked p q .buffer ≡ q .buffer
   pub stays : leaves p q ≡ p
   pub frame : FrameGiven p
@@ -81,8 +82,8 @@ pub record Refused (p : Panel) (q : Request) : Type 0 where
 -- accepted: every sent cycle accepted, both chips ready and the frame given before the first and after each, and only the last two cycles change
 -- what is shown, each its own half
 pub record Accepted (p : Panel) (q : Request) : Type 0 where
-  pub number : asked p q .answer .number ≡ 0
-  pub place : asked p q .answer .place ≡ 254
+  pub number : asked p q .verdict .number ≡ 0
+  pub place : asked p q .verdict .place ≡ 254
   pub cycles : (k : ℕ) → k < q .stop → outcomeOf (sentSoFar p q k) (front (drop (4 * k) (asked p q .buffer))) .answer .number ≡ 0
   pub places : (k : ℕ) → k < q .stop → outcomeOf (sentSoFar p q k) (front (drop (4 * k) (asked p q .buffer))) .answer .place ≡ 0
   pub ready : (k : ℕ) → k ≤ q .stop → BothReady (sentSoFar p q k)
@@ -91,11 +92,16 @@ pub record Accepted (p : Panel) (q : Request) : Type 0 where
   pub turned : 253 ≤ q .stop → SameHalf 0 (shown (sentSoFar p q 253)) (wanted (q .picture)) × SameHalf 1 (shown (sentSoFar p q 253)) (shown p)
   pub whole : 254 ≤ q .stop → shown (sentSoFar p q 254) ≡ wanted (q .picture)
 
--- what is promised of one repaint: it is refused exactly when a size is wrong
+-- the test of sizes in numbers: a picture of 122 by 16, and room for 254 records
+pub record SizesTold : Type 0 where
+  pub right : (picture buffer : ℕ) → picture ≡ pictureBytes → 4 * 254 ≤ buffer → repaintSizesWrong picture buffer ≡ false
+  pub wrong : (picture buffer : ℕ) → (picture ≡ pictureBytes → 4 * 254 ≤ buffer → ⊥) → repaintSizesWrong picture buffer ≡ true
+
+-- what is promised of one repaint: it is refused exactly when a size is wrong (SizesTold)
 abbrev pub Safe : Panel → Request → Type 0
 Safe p q =
-    (sizesWrong (length (q .picture)) (length (q .buffer)) ≡ true → Refused p q)
-    × (sizesWrong (length (q .picture)) (length (q .buffer)) ≡ false → Accepted p q)
+    (repaintSizesWrong (length (q .picture)) (length (q .buffer)) ≡ true → Refused p q)
+    × (repaintSizesWrong (length (q .picture)) (length (q .buffer)) ≡ false → Accepted p q)
 
 -- every repaint of the list, and, begun afresh from the panel that the list leaves, any other one; a panel in the middle of a repaint is left by the
 -- list that ends with that repaint stopped there

@@ -7,7 +7,7 @@ use lib.Dec.{ltb}
 use lib.ListN.{length, set, length-append, length-set}
 use lib.Seq.{sets}
 use borrow.Author.Tests.{lt-ltb, le-ltb}
-use Rattle.sed1520.proofs.Tests.{when}
+use Rattle.basics.proofs.Tests.{when}
 use Rattle.replay.specs.Text.{decimal, Put}
 
 -- more bytes past those that were put

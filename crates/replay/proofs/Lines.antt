@@ -1,24 +1,18 @@
 -- The lines of the answers, one more at the end.
-use Prim.Native.Nat.{ℕ, zero, suc, _+_, _*_, _≤_}
+use Prim.Native.Nat.{ℕ, _+_, _*_, _≤_}
 use native.Mathlib.Omega.{arith}
 use native.Mathlib.Numerals.{add-one}
 use mathlib.Core.Path.{_≡_, refl, _∙_}
-use mathlib.Core.List.{List, _++_, append-assoc, append-nil}
-use lib.ListN.{length, getD}
-use Rattle.replay.specs.Text.{lineOf, linesOf, Put}
+use mathlib.Core.List.{List}
+use lib.ListN.{length}
+use Rattle.basics.specs.Lists.{joined}
+use Rattle.basics.proofs.Lists.{joined-more}
+use Rattle.replay.specs.Text.{lineAt, linesOf, Put}
 use Rattle.replay.proofs.Digits.{put-more}
-
-lines-more : (answers : List ℕ) (at n : ℕ)
-    → linesOf answers at (suc n) ≡ linesOf answers at n ++ lineOf (at + n) (getD answers (2 * (at + n)) 0) (getD answers (2 * (at + n) + 1) 0)
-unfolding linesOf
-lines-more answers at zero = let e : at + 0 ≡ at = omega arith in rw (e, append-nil)
-lines-more answers at (suc n) =
-    let e : at + 1 + n ≡ at + suc n = omega arith in
-    rw (lines-more answers (at + 1) n, e) (simp append-assoc)
 
 -- the text so far
 pub record Lines (before now answers : List ℕ) (count at index : ℕ) : Type 0 where
-  pub so-far : Put before now 0 at (linesOf answers 0 index)
+  pub so-far : Put before now 0 at (linesOf answers index)
   pub within : index ≤ count
   pub short : at ≤ 45 * index
   pub size : length now ≡ length before
@@ -27,12 +21,12 @@ pub record Lines (before now answers : List ℕ) (count at index : ℕ) : Type 0
 
 pub one-more : {before now after answers : List ℕ} {count at next index : ℕ} → Lines before now answers count at index
     → index + 1 ≤ count → length after ≡ length now → next ≤ at + 45
-    → Put now after at next (lineOf index (getD answers (2 * index) 0) (getD answers (2 * index + 1) 0))
+    → Put now after at next (lineAt answers index)
     → Lines before after answers count next (index + 1)
 one-more {before} {now} {after} {answers} {count} {at} {next} {index} l h same short p =
     let e : 0 + index ≡ index = omega arith in
     record {
-      so-far = rw (add-one index, lines-more answers 0 index) (rw e (put-more (l .so-far) p));
+      so-far = rw (add-one index, joined-more (lineAt answers) 0 index, e) (put-more (l .so-far) p);
       within = h;
       short = omega arith;
       size = same ∙ l .size;
@@ -41,7 +35,7 @@ one-more {before} {now} {after} {answers} {count} {at} {next} {index} l h same s
     }
 
 pub no-lines : (l answers : List ℕ) (count : ℕ) → 45 * count ≤ length l → 2 * count ≤ length answers → Lines l l answers count 0 0
-unfolding linesOf
+unfolding joined
 no-lines l answers count e g =
     record {
       so-far = record { text = refl; next-place = refl };

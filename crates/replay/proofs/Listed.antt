@@ -8,15 +8,12 @@ use lib.Dec.{leb, eqb}
 use lib.ListN.{length, replicate, length-replicate}
 use borrow.Author.Tests.{le-leb, lt-leb}
 use Rattle.sed1520.specs.Chip.{inRange, fresh}
-use Rattle.sed1520.specs.Panel.{Panel}
+use Rattle.sed1520.specs.Panel.{Panel, panelOf}
 use Rattle.sed1520.specs.declared.registers.Chip.{Chip}
-use Rattle.sed1520.specs.Records.{wholeRecords}
-use Rattle.sed1520.proofs.Tests.{when}
-use Rattle.trace.specs.Replay as replay
-use Rattle.sed1520.specs.Panel.{panelOf}
-use Rattle.trace.specs.Replay.{runOf, ended, sizesWrong, replayOf}
+use Rattle.basics.proofs.Tests.{when}
+use Rattle.trace.specs.Replay.{ReplayOutcome, replayOutcome, traceRun, ended, replaySizesWrong, replayOf}
 use Rattle.trace.specs.declared.Replayed.{Replayed}
-use Rattle.trace.proofs.AfterEach.{replies-bound, records-length}
+use Rattle.trace.proofs.AfterEach.{replies-bound}
 use Rattle.trace.proofs.Bounds.{replay-bounded}
 use Rattle.trace.proofs.ReplayCases.{sizes-right}
 use Rattle.replay.specs.Text.{linesOf, endOf, givenOf, textOf, programText, start, Put}
@@ -42,45 +39,41 @@ given-space : (p : Panel) (trace answers : List ℕ)
     → 2 * givenOf (replayOf p trace answers .number) (replayOf p trace answers .place) ≤ length answers
 unfolding replayOf ended
 given-space p trace answers =
-    when Enough (sizesWrong (length trace) (length (p .ram)) (length answers)) (λ _. omega arith)
+    when Enough (replaySizesWrong (length trace) (length (p .ram)) (length answers)) (λ _. omega arith)
     (λ sizes. let right = sizes-right (length trace) (length (p .ram)) (length answers) sizes in
     when Enough (not (inRange (p .left))) (λ _. omega arith)
     (λ _. when Enough (not (inRange (p .right))) (λ _. omega arith)
     (λ _. when Enough (not (eqb (length trace % 4) 0)) (λ _. omega arith)
-    (λ _. let run = runOf p (wholeRecords trace) in
-    let few = given-bound (run .number) (length (run .replies)) in
-    omega (arith, few, replies-bound (wholeRecords trace) p, records-length (length trace / 4) trace)))))
+    (λ _. let run = traceRun p trace in
+    let few = given-bound (run .number) (length (run .answers)) in
+    omega (arith, few, replies-bound p trace)))))
   where
-    Enough : replay.Outcome → Type 0
+    Enough : ReplayOutcome → Type 0
     Enough o = 2 * givenOf (o .number) (o .place) ≤ length answers
-
--- the answers given fit the text, which has 16,384 lines, and the answer buffer
-abbrev pub Fits : Replayed → List ℕ → Type 0
-Fits done answers =
-    (givenOf (done .number) (done .place) ≤ 16384) × (2 * givenOf (done .number) (done .place) ≤ length answers)
 
 -- a replay on fresh chips over RAM all 0, into an answer buffer all 0
 pub record FromFresh (trace answers ram′ answers′ : List ℕ) (done : Replayed) : Type 0 where
   pub cleared : answers ≡ replicate 32768 0
-  pub ends : replay.outcome done ram′ answers′ ≡ replayOf start trace answers
+  pub ends : replayOutcome done ram′ answers′ ≡ replayOf start trace answers
 
 pub from-fresh : {trace answers image ram′ answers′ : List ℕ} {left right : Chip} {done : Replayed}
     → left ≡ fresh → right ≡ fresh → image ≡ replicate 640 0 → answers ≡ replicate 32768 0
-    → replay.outcome done ram′ answers′ ≡ replayOf (panelOf left right image) trace answers
+    → replayOutcome done ram′ answers′ ≡ replayOf (panelOf left right image) trace answers
     → FromFresh trace answers ram′ answers′ done
 from-fresh is-left is-right blank cleared ends = record { cleared = cleared; ends = ends ∙ rw (is-left, is-right, blank) }
 
 module _ {trace answers ram′ answers′ : List ℕ} {done : Replayed} (ran : FromFresh trace answers ram′ answers′ done) where
-  pub given-fits : Fits done answers
+  -- the answers given fit the text, which has 16,384 lines, and the answer buffer
+  pub given-fits : (givenOf (done .number) (done .place) ≤ 16384) × (2 * givenOf (done .number) (done .place) ≤ length answers)
   given-fits =
-      let number = ap (λ (o : replay.Outcome). o .number) (ran .ends) in
-      let place = ap (λ (o : replay.Outcome). o .place) (ran .ends) in
+      let number = ap (λ (o : ReplayOutcome). o .number) (ran .ends) in
+      let place = ap (λ (o : ReplayOutcome). o .place) (ran .ends) in
       let o = replayOf start trace answers in
       let few = given-bound (o .number) (o .place) in
-      rw (number, place) (omega (arith, few, replay-bounded start trace answers .place), given-space start trace answers)
+      rw (number, place) (omega (arith, few, replay-bounded start trace answers .place-few), given-space start trace answers)
 
   pub listed : {out mid end : List ℕ} {at next given : ℕ} → given ≡ givenOf (done .number) (done .place)
-      → Put out mid 0 at (linesOf answers′ 0 given)
+      → Put out mid 0 at (linesOf answers′ given)
       → Put mid end at next (endOf (done .number) (done .place) (done .compared) (done .differing))
       → Put out end 0 next (programText trace)
   unfolding programText textOf

@@ -7,11 +7,11 @@ use mathlib.Core.List.{List, [], _∷_, _++_}
 use lib.Dec.{ltb, leb}
 use lib.ListN.{length, getD, replicate}
 use lib.Seq.{sets}
-use Rattle.sed1520.specs.Choice.{if}
+use Rattle.basics.specs.Choice.{if}
+use Rattle.basics.specs.Lists.{joined}
 use Rattle.sed1520.specs.Chip.{fresh}
-use Rattle.sed1520.specs.Panel.{Panel}
-use Rattle.sed1520.specs.Panel.{panelOf}
-use Rattle.trace.specs.Replay.{Outcome, replayOf}
+use Rattle.sed1520.specs.Panel.{Panel, panelOf}
+use Rattle.trace.specs.Replay.{ReplayOutcome, replayOf}
 
 -- the decimal digits of a number that has at most so many, in ASCII, no zeros in front
 unfoldable pub decimal : ℕ → ℕ → List ℕ
@@ -39,18 +39,21 @@ unfoldable pub endOf : ℕ → ℕ → ℕ → ℕ → List ℕ
 endOf number place compared differing =
     101 ∷ 110 ∷ 100 ∷ (32 ∷ decimalOf number) ++ ((32 ∷ decimalOf place) ++ ((32 ∷ decimalOf compared) ++ ((32 ∷ decimalOf differing) ++ (10 ∷ []))))
 
--- the lines of n answers from a record on, two bytes each in the answer buffer
-unfoldable pub linesOf : List ℕ → ℕ → ℕ → List ℕ
-linesOf answers at zero = []
-linesOf answers at (suc n) = lineOf at (getD answers (2 * at) 0) (getD answers (2 * at + 1) 0) ++ linesOf answers (at + 1) n
+-- the line of the answer to a record, two bytes in the answer buffer
+abbrev pub lineAt : List ℕ → ℕ → List ℕ
+lineAt answers index = lineOf index (getD answers (2 * index) 0) (getD answers (2 * index + 1) 0)
+
+-- the lines of the first n answers
+abbrev pub linesOf : List ℕ → ℕ → List ℕ
+linesOf answers n = joined (lineAt answers) 0 n
 
 -- how many answers a replay gave, by its number and place: none where it was refused before its first record
 abbrev pub givenOf : ℕ → ℕ → ℕ
 givenOf number place = if (leb 1 number && leb number 3) 0 place
 
 -- the text of a replay
-unfoldable pub textOf : Outcome → List ℕ
-textOf o = linesOf (o .answers) 0 (givenOf (o .number) (o .place)) ++ endOf (o .number) (o .place) (o .compared) (o .differing)
+unfoldable pub textOf : ReplayOutcome → List ℕ
+textOf o = linesOf (o .answers) (givenOf (o .number) (o .place)) ++ endOf (o .number) (o .place) (o .compared) (o .differing)
 
 -- fresh chips, RAM all 0
 abbrev pub start : Panel

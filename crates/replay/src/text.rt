@@ -67,7 +67,7 @@ fn put_line(out: &mut [u8], at: usize, index: u64, kind: u8, byte: u8) -> usize
 pub(crate) fn put_lines(out: &mut [u8], answers: &[u8], count: usize) -> usize
     requires { ⌜ 45 * count ≤ length (now out) ⌝ }
     requires { ⌜ 2 * count ≤ length (now answers) ⌝ }
-    ensures { λ r. ⌜ Put (now (out .entry)) (now (out .exit)) 0 r (linesOf (now (answers .entry)) 0 count) ⌝ }
+    ensures { λ r. ⌜ Put (now (out .entry)) (now (out .exit)) 0 r (linesOf (now (answers .entry)) count) ⌝ }
     ensures { λ r. ⌜ r ≤ 45 * count ⌝ }
 {
     let mut at = 0;

@@ -7,13 +7,12 @@ use mathlib.Core.Option.{none, some}
 use lib.Dec.{leb}
 use lib.ListN.{getD, set}
 use borrow.Author.Tests.{lt-ltb, le-ltb, le-leb}
-use Rattle.sed1520.specs.Chip.{staled, withColumn, withLatch, withModify}
+use Rattle.sed1520.specs.Chip.{staled, withColumn, withLatch}
 use Rattle.sed1520.specs.Command.{decodeOf, toldCommand}
 use Rattle.sed1520.specs.Memory.{ramIndex}
-use Rattle.sed1520.specs.Cycle.{outcome, refusal, answered, execute, columnLocked, commandWrite, dataWrite, afterRead}
+use Rattle.sed1520.specs.Cycle.{outcome, answered, execute, columnLocked, commandWrite, dataWrite, afterRead}
 use Rattle.sed1520.specs.declared.registers.Chip.{Chip}
 use Rattle.sed1520.specs.declared.registers.ReadLatch.the-variants.{Fresh}
-use Rattle.sed1520.specs.declared.commands.Kind.the-variants.{Modify, End}
 use Rattle.sed1520.specs.declared.commands.Command.{Command}
 use Rattle.sed1520.specs.declared.commands.Decoded.{Decoded}
 use Rattle.sed1520.specs.declared.commands.Decoded.the-variants.{Known, Unknown}
@@ -25,39 +24,11 @@ known-command d b m e k = rw (← e, k)
 pub no-command : (d : Decoded) (b at : ℕ) → toldCommand d ≡ decodeOf b → d ≡ Unknown at → decodeOf b .value ≡ none
 no-command d b at e k = rw (← e, k)
 
--- the commands of read-modify-write, with the mode on and off
-module _ (c : Chip) where
-  module _ (on : c .modify ≡ true) where
-    pub modify-already : execute Modify 0 c ≡ c
-    unfolding execute
-    modify-already = rw on
-
-    pub end-modify : execute End 0 c ≡ staled (withModify false 0 (withColumn (c .«saved_column») c))
-    unfolding execute
-    end-modify = rw on
-
-  module _ (off : c .modify ≡ false) where
-    pub begin-modify : execute Modify 0 c ≡ withModify true (c .column) c
-    unfolding execute
-    begin-modify = rw off
-
-    pub end-idle : execute End 0 c ≡ c
-    unfolding execute
-    end-idle = rw off
-
 module _ (b : ℕ) (c : Chip) where
-  pub command-unknown : decodeOf b .value ≡ none → commandWrite b c ≡ refusal 7 c
+  pub command-executed : (m : Command) → decodeOf b .value ≡ some m → columnLocked b c ≡ false
+      → commandWrite b c ≡ answered 0 0 (execute (m .kind) (m .argument) c)
   unfolding commandWrite
-  command-unknown e = rw e
-
-  module _ (m : Command) (known : decodeOf b .value ≡ some m) where
-    pub command-locked : columnLocked b c ≡ true → commandWrite b c ≡ refusal 8 c
-    unfolding commandWrite
-    command-locked locked = rw (known, locked)
-
-    pub command-executed : columnLocked b c ≡ false → commandWrite b c ≡ answered 0 0 (execute (m .kind) (m .argument) c)
-    unfolding commandWrite
-    command-executed free = rw (known, free)
+  command-executed m known free = rw (known, free)
 
   -- only a byte below 128 sets the column
   pub locked-below : b < 128 → columnLocked b c ≡ c .modify

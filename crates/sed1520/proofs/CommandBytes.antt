@@ -8,8 +8,9 @@ use mathlib.Core.Logic.{⊎-elim}
 use mathlib.Core.List.{List, [], _∷_}
 use mathlib.Core.Option.{none, some, Option·none-ne-some as none-ne-some, Option·some-injective as some-injective}
 use lib.Dec.{ltb, leb, eqb}
+use borrow.Author.Needs.{needs}
 use borrow.Author.Tests.{lt-ltb, le-ltb, le-leb, lt-leb, leb-true, ltb-true, eqb-true}
-use Rattle.sed1520.proofs.Tests.{tested, either, both}
+use Rattle.basics.proofs.Tests.{tested, either, both}
 use Rattle.sed1520.specs.Command.{first, count, kinds, within, among}
 use Rattle.sed1520.specs.declared.commands.Kind.{Kind}
 use Rattle.sed1520.specs.declared.commands.Kind.the-variants.{Display, StartLine, Page, Column, Adc, Static, Duty, Modify, End, Reset}
@@ -50,16 +51,16 @@ record Computed (k : Kind) : Type 0 where
 
 computed : (k : Kind) → Computed k
 unfolding among
-computed Display = record { listed = refl; at-first = refl; below-256 = omega arith }
-computed StartLine = record { listed = refl; at-first = refl; below-256 = omega arith }
-computed Page = record { listed = refl; at-first = refl; below-256 = omega arith }
-computed Column = record { listed = refl; at-first = refl; below-256 = omega arith }
-computed Adc = record { listed = refl; at-first = refl; below-256 = omega arith }
-computed Static = record { listed = refl; at-first = refl; below-256 = omega arith }
-computed Duty = record { listed = refl; at-first = refl; below-256 = omega arith }
-computed Modify = record { listed = refl; at-first = refl; below-256 = omega arith }
-computed End = record { listed = refl; at-first = refl; below-256 = omega arith }
-computed Reset = record { listed = refl; at-first = refl; below-256 = omega arith }
+computed Display = search needs
+computed StartLine = search needs
+computed Page = search needs
+computed Column = search needs
+computed Adc = search needs
+computed Static = search needs
+computed Duty = search needs
+computed Modify = search needs
+computed End = search needs
+computed Reset = search needs
 
 first-injective : (j k : Kind) → first j ≡ first k → j ≡ k
 first-injective j k e = cc (computed j .at-first, computed k .at-first, ap (among kinds) e)

@@ -7,12 +7,14 @@ use mathlib.Core.List.{List}
 use mathlib.Core.Option.{Option, none, some}
 use lib.Dec.{ltb, leb, eqb}
 use lib.ListN.{length, length-set}
+use borrow.Author.Needs.{needs}
 use borrow.Author.Tests.{ltb-true}
+use Rattle.basics.specs.Choice.{if}
 use Rattle.sed1520.specs.Chip.{inRange, withColumn}
 use Rattle.sed1520.specs.Command.{count, decodeOf}
 use Rattle.sed1520.specs.Memory.{ramIndex}
 use Rattle.sed1520.specs.Cycle.{outcome, refusal, answered, execute, columnLocked, executed, commandWrite, dataWrite, afterRead, dataRead}
-use Rattle.sed1520.specs.Cycle.{readLine, writeLine, addressLine, actionOf, stepOf, cycleOf}
+use Rattle.sed1520.specs.Cycle.{writeLine, addressLine, actionOf, busRefusal, stepOf, cycleOf}
 use Rattle.sed1520.specs.Promises.{Keeps, EveryCycleKeeps}
 use Rattle.sed1520.specs.declared.registers.Chip.{Chip}
 use Rattle.sed1520.specs.declared.commands.Kind.{Kind}
@@ -21,26 +23,21 @@ use Rattle.sed1520.specs.declared.commands.Command.{Command}
 use Rattle.sed1520.specs.declared.bus.Record.{Record}
 use Rattle.sed1520.proofs.ChipRange.{Ranges, ranges, in-range}
 use Rattle.sed1520.proofs.OneRule.{told-place}
-use Rattle.sed1520.proofs.Tests.{when}
+use Rattle.basics.proofs.Tests.{when}
 
 -- the registers after an accepted command are in range
 execute-ranges : (k : Kind) (a : ℕ) (c : Chip) → a < count k → Ranges c → Ranges (execute k a c)
 unfolding execute
-execute-ranges Display a c h r = record { page = r .page; line = r .line; column = r .column; saved = r .saved; idle = r .idle }
-execute-ranges StartLine a c h r = record { page = r .page; line = h; column = r .column; saved = r .saved; idle = r .idle }
-execute-ranges Page a c h r = record { page = h; line = r .line; column = r .column; saved = r .saved; idle = r .idle }
-execute-ranges Column a c h r = record { page = r .page; line = r .line; column = h; saved = r .saved; idle = r .idle }
-execute-ranges Adc a c h r = record { page = r .page; line = r .line; column = r .column; saved = r .saved; idle = r .idle }
-execute-ranges Static a c h r = record { page = r .page; line = r .line; column = r .column; saved = r .saved; idle = r .idle }
-execute-ranges Duty a c h r = record { page = r .page; line = r .line; column = r .column; saved = r .saved; idle = r .idle }
-execute-ranges Modify a c h r =
-    when Ranges (c .modify) (λ on. r)
-    (λ off. record { page = r .page; line = r .line; column = r .column; saved = r .column; idle = refl })
-execute-ranges End a c h r =
-    when Ranges (c .modify)
-    (λ on. record { page = r .page; line = r .line; column = r .saved; saved = omega arith; idle = refl })
-    (λ off. r)
-execute-ranges Reset a c h r = record { page = omega arith; line = omega arith; column = omega arith; saved = r .saved; idle = r .idle }
+execute-ranges Display a c h r = search needs
+execute-ranges StartLine a c h r = search needs
+execute-ranges Page a c h r = search needs
+execute-ranges Column a c h r = search needs
+execute-ranges Adc a c h r = search needs
+execute-ranges Static a c h r = search needs
+execute-ranges Duty a c h r = search needs
+execute-ranges Modify a c h r = when Ranges (c .modify) (λ on. r) (λ off. search needs)
+execute-ranges End a c h r = when Ranges (c .modify) (λ on. search needs) (λ off. r)
+execute-ranges Reset a c h r = search needs
 
 -- a cycle that is done with a chip in range keeps what is asked; so does one that is refused
 module _ (c : Chip) (ram : List ℕ) where
@@ -60,39 +57,33 @@ module _ (c : Chip) (ram : List ℕ) where
       (λ _. refusal-keeps 8)
       (λ _. done-keeps 0 0 (execute (m .kind) (m .argument) c) ram (execute-ranges (m .kind) (m .argument) c (h m refl)) refl)
 
-  counted-ranges : c .column < 80 → Ranges c → Ranges (withColumn (c .column + 1) c)
-  counted-ranges h r = record { page = r .page; line = r .line; column = omega arith; saved = r .saved; idle = r .idle }
-
   after-read-ranges : Ranges c → Ranges (afterRead c ram)
   unfolding afterRead
   after-read-ranges r =
       when Ranges (ltb (c .column) 80)
       (λ below. let h = ltb-true (c .column) 80 below in
-      let counted = when (λ n. n < 128) (c .modify) (λ _. r .column) (λ _. omega arith) in
-      record { page = r .page; line = r .line; column = counted; saved = r .saved; idle = r .idle })
-      (λ _. record { page = r .page; line = r .line; column = r .column; saved = r .saved; idle = r .idle })
+      let counted : if (c .modify) (c .column) (c .column + 1) < 128 = when (λ n. n < 128) (c .modify) (λ _. r .column) (λ _. omega arith) in
+      search needs)
+      (λ _. search needs)
 
   action-keeps : (lines b : ℕ) → Keeps c ram (actionOf lines b c ram)
   unfolding actionOf commandWrite dataWrite dataRead
   action-keeps lines b =
-      when (Keeps c ram) (eqb (readLine lines) (writeLine lines)) (λ _. refusal-keeps 6)
-      (λ _. when (Keeps c ram) (eqb (writeLine lines) 0)
+      when (Keeps c ram) (eqb (writeLine lines) 0)
       (λ _. when (Keeps c ram) (eqb (addressLine lines) 0)
       (λ _. executed-keeps b (decodeOf b .value) (λ m e. told-place b m e .0))
       (λ _. when (Keeps c ram) (ltb (c .column) 80)
-      (λ below. let same-length = length-set ram (ramIndex (c .page) (c .column)) b in
-      done-keeps 0 0 (withColumn (c .column + 1) c) _ (counted-ranges (ltb-true (c .column) 80 below)) same-length)
+      (λ below. let h = ltb-true (c .column) 80 below in
+      done-keeps 0 0 (withColumn (c .column + 1) c) _ (λ r. search needs) (length-set ram (ramIndex (c .page) (c .column)) b))
       (λ _. done-keeps 0 0 c ram (λ r. r) refl)))
       (λ _. when (Keeps c ram) (eqb (addressLine lines) 0)
       (λ _. done-keeps 3 _ c ram (λ r. r) refl)
-      (λ _. done-keeps _ _ (afterRead c ram) ram after-read-ranges refl)))
+      (λ _. done-keeps _ _ (afterRead c ram) ram after-read-ranges refl))
 
   pub step-keeps : (r : Record) → Keeps c ram (stepOf r c ram)
   unfolding stepOf
   step-keeps r =
-      when (Keeps c ram) (leb 8 (r .lines) || not (eqb (r .spare) 0)) (λ _. refusal-keeps 4)
-      (λ _. when (Keeps c ram) (leb 2 (r .chip)) (λ _. refusal-keeps 5)
-      (λ _. action-keeps (r .lines) (r .byte)))
+      when (Keeps c ram) (eqb (busRefusal r) 0) (λ _. action-keeps (r .lines) (r .byte)) (λ _. refusal-keeps (busRefusal r))
 
   pub cycle-keeps : (r : Record) → Keeps c ram (cycleOf r c ram)
   unfolding cycleOf

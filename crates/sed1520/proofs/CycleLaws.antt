@@ -4,10 +4,9 @@ use native.Mathlib.Omega.{arith}
 use mathlib.Core.Path.{_≡_, refl, ap, _∙_}
 use mathlib.Core.Bool.{false}
 use mathlib.Core.List.{List}
-use lib.ListN.{set}
 use Rattle.sed1520.specs.Chip.{withPage, withColumn, withStartLine}
 use Rattle.sed1520.specs.Command.{first, count, Told}
-use Rattle.sed1520.specs.Memory.{ramIndex}
+use Rattle.sed1520.specs.Memory.{byteSet}
 use Rattle.sed1520.specs.Cycle.{outcome, answered, execute, columnLocked, actionOf, cycleOf}
 use Rattle.sed1520.specs.Laws.{registers, sent, Fit, Accepts, CycleLaws}
 use Rattle.sed1520.specs.declared.registers.Chip.{Chip}
@@ -29,8 +28,8 @@ module _ (c : Chip) (ram : List ℕ) (fit : Fit c ram) where
       record {
         number = rw e;
         place = keeps .place;
-        shown = rw e;
-        stored = rw e;
+        registers-after = rw e;
+        ram-after = rw e;
         fit = record { range = keeps .range (fit .range); bytes = keeps .same-size ∙ fit .bytes };
       }
 
@@ -66,9 +65,9 @@ module _ (c : Chip) (ram : List ℕ) (fit : Fit c ram) where
     column-set n h idle = command-set Column n (omega arith) (locked-below (first Column + n) c (omega arith) ∙ idle)
 
     data-write : (b : ℕ) → c .column < 80
-        → Accepts (sent 3 k b) c ram (registers (withColumn (c .column + 1) c)) (set ram (ramIndex (c .page) (c .column)) b)
+        → Accepts (sent 3 k b) c ram (registers (withColumn (c .column + 1) c)) (byteSet ram (c .page) (c .column) b)
     data-write b h =
-        accepted (sent 3 k b) (withColumn (c .column + 1) c) (set ram (ramIndex (c .page) (c .column)) b)
+        accepted (sent 3 k b) (withColumn (c .column + 1) c) (byteSet ram (c .page) (c .column) b)
         (action-cycle 3 b (omega arith) (omega arith) ∙ action-data-write 3 b c ram refl ∙ data-write-stored c ram h b)
 
 pub cycle-laws : CycleLaws

@@ -1,12 +1,14 @@
 -- The examples, computed from the definitions.
 use mathlib.Core.Path.{refl}
+use Rattle.basics.specs.Run.{runOf}
+use Rattle.sed1520.specs.Memory.{ramIndex}
 use Rattle.sed1520.specs.Chip.{inRange, fresh}
 use Rattle.sed1520.specs.Command.{among, decodeOf}
-use Rattle.sed1520.specs.Cycle.{execute, commandWrite, dataWrite, afterRead, dataRead, statusOf, actionOf, stepOf, cycleOf}
-use Rattle.sed1520.specs.Examples.{ranFrom, commanded, ChipExamples, CommandedChips}
+use Rattle.sed1520.specs.Cycle.{execute, commandWrite, dataWrite, afterRead, dataRead, statusOf, actionOf, busRefusal, stepOf, cycleOf}
+use Rattle.sed1520.specs.Examples.{commanded, ChipExamples, CommandedChips}
 
 pub chip-examples : ChipExamples
-unfolding ranFrom cycleOf stepOf actionOf commandWrite dataWrite dataRead afterRead statusOf execute decodeOf among inRange fresh
+unfolding runOf ramIndex cycleOf stepOf busRefusal actionOf commandWrite dataWrite dataRead afterRead statusOf execute decodeOf among inRange fresh
 chip-examples =
     record {
       p1 = refl;
@@ -16,6 +18,7 @@ chip-examples =
       p4-on-reverse = refl;
       p6-counted = (refl, refl);
       p6-returned = (refl, refl);
+      p7-on = refl;
       p7 = refl;
       p10-80 = (refl, refl);
       p10-ac = (refl, refl);
@@ -28,5 +31,5 @@ chip-examples =
     }
 
 pub commanded-chips : CommandedChips
-unfolding commanded ranFrom cycleOf stepOf actionOf commandWrite execute decodeOf among inRange fresh
+unfolding commanded runOf cycleOf stepOf busRefusal actionOf commandWrite execute decodeOf among inRange fresh
 commanded-chips = record { static-display-off = refl; static-display-on = refl; line-31 = refl; forward = refl; reverse = refl }

@@ -11,7 +11,7 @@ use Rattle.sed1520.specs.Command.{first, count, kinds, among, Told, told
 use Rattle.sed1520.specs.Promises.{OneRule, countBelow, isCommand}
 use Rattle.sed1520.specs.declared.commands.Kind.{Kind}
 use Rattle.sed1520.specs.declared.commands.Command.{Command}
-use Rattle.sed1520.proofs.Tests.{tested}
+use Rattle.basics.proofs.Tests.{tested}
 use Rattle.sed1520.proofs.CommandBytes.{kind-in-range, range-of-kind, range-below-256}
 
 -- the byte of a command is told as that command

@@ -9,10 +9,11 @@ use borrow.Author.Tests.{eq-eqb, ne-eqb}
 use Rattle.sed1520.specs.ChipRecord.{registersIn}
 use Rattle.sed1520.specs.Cycle.{busRefusal, commandWrite, dataWrite, dataRead, statusRead}
 use Rattle.sed1520.specs.RecordStep.{bare, bareRefusal, acted, readBytes, commandBytes, written, actionOn}
-use Rattle.sed1520.specs.RecordStep.{startOf, partAt, putBack, stepRecords}
+use Rattle.basics.specs.Halves.{startOf, partAt}
+use Rattle.sed1520.specs.RecordStep.{putBack, stepRecords}
 use Rattle.sed1520.specs.declared.bus.Record.{Record}
 use Rattle.sed1520.specs.declared.record_step.BareAnswer.{BareAnswer}
-use Rattle.sed1520.proofs.TwoParts.{part-lent, part-back}
+use Rattle.basics.proofs.Halves.{part-lent, part-back}
 
 module _ (lines byte : ℕ) (b ram : List ℕ) where
   pub on-write : lines ≡ 3 → actionOn lines byte b ram ≡ written b (dataWrite byte (registersIn b) ram)

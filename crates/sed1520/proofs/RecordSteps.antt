@@ -9,15 +9,16 @@ use mathlib.Core.Option.{Option, none, some}
 use lib.Dec.{ltb, eqb}
 use lib.ListN.{length, take, drop}
 use borrow.Author.Tests.{eqb-true, eqb-false}
-use Rattle.sed1520.specs.Choice.{if}
+use Rattle.basics.specs.Choice.{if}
 use Rattle.sed1520.specs.Chip.{inRange}
-use Rattle.sed1520.specs.ChipRecord.{chipBytes, registersIn, marksRight, recordRight, chipIn, panelIn, RecordsFit}
+use Rattle.sed1520.specs.ChipRecord.{chipBytes, registersIn, flagsRight, recordRight, chipIn, panelIn, RecordsFit}
 use Rattle.sed1520.specs.Command.{decodeOf}
 use Rattle.sed1520.specs.Cycle.{busRefusal, Outcome, columnLocked, executed, commandWrite, dataWrite, afterRead, dataRead, actionOf, stepOf}
 use Rattle.sed1520.specs.Panel.{panelOf, chipAt, put, outcomeOf, stepped}
 use Rattle.sed1520.specs.Promises.{EveryRecordStep}
 use Rattle.sed1520.specs.RecordStep.{bare, Acted, acted, writeBytes, readBytes, commandBytes, actionOn}
-use Rattle.sed1520.specs.RecordStep.{partAt, partPut, putBack, stepRecords}
+use Rattle.basics.specs.Halves.{partAt, partPut}
+use Rattle.sed1520.specs.RecordStep.{putBack, stepRecords}
 use Rattle.sed1520.specs.declared.actions.Answer.{Answer}
 use Rattle.sed1520.specs.declared.registers.Chip.{Chip}
 use Rattle.sed1520.specs.declared.commands.Command.{Command}
@@ -27,8 +28,8 @@ use Rattle.sed1520.proofs.RecordStepCases.{on-write, on-status, on-read
 use Rattle.sed1520.proofs.RecordsUndo.{record-length, read-back, marked-in, written-back, there, chip-passes, two-chips}
 use Rattle.sed1520.proofs.StepCases.{action-command, action-data-write, action-status, action-data-read}
 use Rattle.sed1520.proofs.StepCases.{asks, step-action, step-refused, cycle-step}
-use Rattle.sed1520.proofs.Tests.{tested, both, when}
-use Rattle.sed1520.proofs.TwoParts.{part-length, same-back, put-front, put-rear, put-length}
+use Rattle.basics.proofs.Tests.{tested, both, when}
+use Rattle.basics.proofs.Halves.{part-length, same-back, put-front, put-rear, put-length}
 
 -- an outcome of one chip as a step leaves it: the answer without its chip, and the chip as a record
 abbrev asRecord : Outcome → Acted
@@ -92,8 +93,8 @@ module _ (r : Record) (chips ram : List ℕ) (fit : RecordsFit chips ram) where
   own-record : recordRight own ≡ true
   own-record = when (λ (b : List ℕ). recordRight b ≡ true) (eqb (r .chip) 0) (λ _. fit .left) (λ _. fit .right)
 
-  own-marks : (marksRight own ≡ true) × (inRange ownChip ≡ true)
-  own-marks = both (marksRight own) _ own-record
+  own-marks : (flagsRight own ≡ true) × (inRange ownChip ≡ true)
+  own-marks = both (flagsRight own) _ own-record
 
   own-bytes : chipBytes ownChip ≡ own
   own-bytes = written-back own (part-length 12 (r .chip) chips (fit .records)) (own-marks .0)
@@ -120,7 +121,7 @@ module _ (r : Record) (chips ram : List ℕ) (fit : RecordsFit chips ram) where
       (λ f. let h = eqb-false (busRefusal r) 0 f in
       bus-wrong r chips ram (fit .records) (fit .image) h
       ∙ rw (step-refused r ownChip ownRam h, own-bytes)
-      (rw (same-back 12 (r .chip) chips (fit .records), same-back 320 (r .chip) ram (fit .image))))
+      (rw (same-back 12 (r .chip) chips, same-back 320 (r .chip) ram)))
       (tested (eqb (busRefusal r) 0))
 
   on-panel : stepRecords r chips ram ≡ putBack (r .chip) chips ram (asRecord (outcomeOf (panelIn chips ram) r))
@@ -151,11 +152,8 @@ module _ (chips ram : List ℕ) (k : ℕ) (next : Chip) (bytes : List ℕ) (fit 
       rw (two-chips (partPut 12 k chips (chipBytes next)) put-chips, two-chips chips (fit .records)) (rw (front, rear) (side (eqb k 0)))
     where
       side : (t : Bool)
-          → panelOf
-          (chipIn (if t (chipBytes next) (take 12 chips)))
-          (chipIn (if t (drop 12 chips) (chipBytes next)))
-          (if t (bytes ++ drop 320 ram) (take 320 ram ++ bytes))
-          ≡ if t (panelOf next (chipIn (drop 12 chips)) (bytes ++ drop 320 ram)) (panelOf (chipIn (take 12 chips)) next (take 320 ram ++ bytes))
+          → panelOf (chipIn (if t (chipBytes next) (take 12 chips))) (chipIn (if t (drop 12 chips) (chipBytes next))) (partPut 320 k ram bytes)
+          ≡ panelOf (if t next (chipIn (take 12 chips))) (if t (chipIn (drop 12 chips)) next) (partPut 320 k ram bytes)
       side true = rw (there next)
       side false = rw (there next)
 

@@ -8,10 +8,10 @@ use mathlib.Core.Logic.{⊎-elim}
 use lib.Dec.{leb, eqb}
 use lib.ListN.{length}
 use borrow.Author.Tests.{le-leb, lt-leb, leb-true, leb-false, eq-eqb, ne-eqb, eqb-false}
-use Rattle.sed1520.specs.Choice.{if}
-use Rattle.sed1520.proofs.Tests.{tested, neither}
+use Rattle.basics.specs.Choice.{if}
+use Rattle.basics.proofs.Tests.{tested, neither}
 use Rattle.sed1520.specs.Chip.{inRange}
-use Rattle.sed1520.specs.Cycle.{busRefusal, Outcome, outcome, refusal, commandWrite, dataWrite, dataRead, statusRead}
+use Rattle.sed1520.specs.Cycle.{busRefusal, outcome, refusal, commandWrite, dataWrite, dataRead, statusRead}
 use Rattle.sed1520.specs.Cycle.{readLine, writeLine, actionOf, stepOf, cycleOf}
 use Rattle.sed1520.specs.declared.registers.Chip.{Chip}
 use Rattle.sed1520.specs.declared.bus.Record.{Record}
@@ -86,28 +86,15 @@ asks r e =
     none false false true h = absurd (omega arith)
     none false false false h = (refl, (refl, refl))
 
--- the chain of the three numbers, and the number that it gives
-chain : (refused : ℕ → Outcome) (a b s : Bool) (acts : Outcome)
-    → if a (refused 4) (if b (refused 5) (if s (refused 6) acts))
-    ≡ if (eqb (if a 4 (if b 5 (if s 6 0))) 0) (if s (refused 6) acts) (refused (if a 4 (if b 5 (if s 6 0))))
-chain refused true b s acts = refl
-chain refused false true s acts = refl
-chain refused false false true acts = refl
-chain refused false false false acts = refl
-
 module _ (r : Record) (c : Chip) (ram : List ℕ) where
-  -- a step is the action of a bus record that is not refused
-  by-refusal : stepOf r c ram ≡ if (eqb (busRefusal r) 0) (actionOf (r .lines) (r .byte) c ram) (outcome (refusal (busRefusal r) c) ram)
-  unfolding stepOf busRefusal actionOf
-  by-refusal =
-      chain (λ n. outcome (refusal n c) ram)
-      (leb 8 (r .lines) || not (eqb (r .spare) 0)) (leb 2 (r .chip)) (eqb (readLine (r .lines)) (writeLine (r .lines))) _
-
+  -- a bus record that is not refused, and one that is
   pub step-action : busRefusal r ≡ 0 → stepOf r c ram ≡ actionOf (r .lines) (r .byte) c ram
-  step-action e = by-refusal ∙ rw e
+  unfolding stepOf
+  step-action e = rw e
 
   pub step-refused : (busRefusal r ≡ 0 → ⊥) → stepOf r c ram ≡ outcome (refusal (busRefusal r) c) ram
-  step-refused h = by-refusal ∙ rw (ne-eqb (busRefusal r) 0 h)
+  unfolding stepOf
+  step-refused h = rw (ne-eqb (busRefusal r) 0 h)
 
   -- numbers 1 and 2, and the cycle past them
   pub cycle-length : (length ram ≡ 320 → ⊥) → cycleOf r c ram ≡ outcome (refusal 1 c) ram

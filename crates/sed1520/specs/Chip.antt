@@ -2,6 +2,7 @@
 use Prim.Native.Nat.{ℕ}
 use mathlib.Core.Bool.{Bool, true, false, _&&_, _||_}
 use lib.Dec.{ltb, eqb}
+use Rattle.basics.specs.Choice.{if}
 use Rattle.sed1520.specs.declared.registers.Chip.{Chip}
 use Rattle.sed1520.specs.declared.registers.ReadLatch.{ReadLatch}
 use Rattle.sed1520.specs.declared.registers.ReadLatch.the-variants.{Fresh, Stale}
@@ -45,66 +46,74 @@ kindOf (Stale b) = 2
 abbrev pub stale : ReadLatch → ReadLatch
 stale latch = Stale (latched latch)
 
--- a chip from its registers, in their order
-abbrev pub chipOf : Bool → Bool → Bool → Bool → Bool → ℕ → ℕ → ℕ → ℕ → ReadLatch → Chip
-chipOf display static duty reverse modify page line column saved latch =
+-- every register anew: flags by the first, numbers by the second, each from its byte's place in a chip record and what it held; the latch by the
+-- third, from what it held
+abbrev pub renewed : (ℕ → Bool → Bool) → (ℕ → ℕ → ℕ) → (ReadLatch → ReadLatch) → Chip → Chip
+renewed flag number latch c =
     record {
-      «display_on» = display;
-      «static_on» = static;
-      «duty_32» = duty;
-      reverse = reverse;
-      modify = modify;
-      page = page;
-      «start_line» = line;
-      column = column;
-      «saved_column» = saved;
-      latch = latch;
+      «display_on» = flag 0 (c .«display_on»);
+      «static_on» = flag 1 (c .«static_on»);
+      «duty_32» = flag 2 (c .«duty_32»);
+      reverse = flag 3 (c .reverse);
+      modify = flag 4 (c .modify);
+      page = number 5 (c .page);
+      «start_line» = number 6 (c .«start_line»);
+      column = number 7 (c .column);
+      «saved_column» = number 8 (c .«saved_column»);
+      latch = latch (c .latch);
     }
 
--- the display flag written alone, every other register as it was; so with the next
-abbrev pub withDisplay : Bool → Chip → Chip
-withDisplay v c =
-    chipOf v (c .«static_on») (c .«duty_32») (c .reverse) (c .modify) (c .page) (c .«start_line») (c .column) (c .«saved_column») (c .latch)
+-- at every place what it held
+abbrev pub asHeld : {A : Type 0} → ℕ → A → A
+asHeld place held = held
 
--- static drive written alone
-abbrev pub withStatic : Bool → Chip → Chip
-withStatic v c =
-    chipOf (c .«display_on») v (c .«duty_32») (c .reverse) (c .modify) (c .page) (c .«start_line») (c .column) (c .«saved_column») (c .latch)
+-- a value at one place, at every other what it held
+abbrev pub only : {A : Type 0} → ℕ → A → ℕ → A → A
+only at v place held = if (eqb place at) v held
 
--- the duty written alone
-abbrev pub withDuty : Bool → Chip → Chip
-withDuty v c =
-    chipOf (c .«display_on») (c .«static_on») v (c .reverse) (c .modify) (c .page) (c .«start_line») (c .column) (c .«saved_column») (c .latch)
+-- the flag at a place of the chip record, 0 to 4, written alone; every other register as it was
+abbrev pub withFlag : ℕ → Bool → Chip → Chip
+withFlag at v c = renewed (only at v) asHeld (λ latch. latch) c
 
--- the ADC direction written alone
-abbrev pub withReverse : Bool → Chip → Chip
-withReverse v c =
-    chipOf (c .«display_on») (c .«static_on») (c .«duty_32») v (c .modify) (c .page) (c .«start_line») (c .column) (c .«saved_column») (c .latch)
-
--- the page written alone
-abbrev pub withPage : ℕ → Chip → Chip
-withPage v c =
-    chipOf (c .«display_on») (c .«static_on») (c .«duty_32») (c .reverse) (c .modify) v (c .«start_line») (c .column) (c .«saved_column») (c .latch)
-
--- the start line written alone
-abbrev pub withStartLine : ℕ → Chip → Chip
-withStartLine v c =
-    chipOf (c .«display_on») (c .«static_on») (c .«duty_32») (c .reverse) (c .modify) (c .page) v (c .column) (c .«saved_column») (c .latch)
-
--- the column written alone
-abbrev pub withColumn : ℕ → Chip → Chip
-withColumn v c =
-    chipOf (c .«display_on») (c .«static_on») (c .«duty_32») (c .reverse) (c .modify) (c .page) (c .«start_line») v (c .«saved_column») (c .latch)
+-- the number at a place of the chip record, 5 to 8, written alone
+abbrev pub withNumber : ℕ → ℕ → Chip → Chip
+withNumber at v c = renewed asHeld (only at v) (λ latch. latch) c
 
 -- the read latch written alone
 abbrev pub withLatch : ReadLatch → Chip → Chip
-withLatch v c =
-    chipOf (c .«display_on») (c .«static_on») (c .«duty_32») (c .reverse) (c .modify) (c .page) (c .«start_line») (c .column) (c .«saved_column») v
+withLatch v c = renewed asHeld asHeld (λ latch. v) c
+
+-- the display flag written alone
+abbrev pub withDisplay : Bool → Chip → Chip
+withDisplay v c = withFlag 0 v c
+
+-- static drive written alone
+abbrev pub withStatic : Bool → Chip → Chip
+withStatic v c = withFlag 1 v c
+
+-- the duty written alone
+abbrev pub withDuty : Bool → Chip → Chip
+withDuty v c = withFlag 2 v c
+
+-- the ADC direction written alone
+abbrev pub withReverse : Bool → Chip → Chip
+withReverse v c = withFlag 3 v c
 
 -- read-modify-write and its saved column written together
 abbrev pub withModify : Bool → ℕ → Chip → Chip
-withModify on saved c =
-    chipOf (c .«display_on») (c .«static_on») (c .«duty_32») (c .reverse) on (c .page) (c .«start_line») (c .column) saved (c .latch)
+withModify on saved c = withFlag 4 on (withNumber 8 saved c)
+
+-- the page written alone
+abbrev pub withPage : ℕ → Chip → Chip
+withPage v c = withNumber 5 v c
+
+-- the start line written alone
+abbrev pub withStartLine : ℕ → Chip → Chip
+withStartLine v c = withNumber 6 v c
+
+-- the column written alone
+abbrev pub withColumn : ℕ → Chip → Chip
+withColumn v c = withNumber 7 v c
 
 -- the read latch made stale, the rest as it was
 abbrev pub staled : Chip → Chip

@@ -6,8 +6,8 @@ use mathlib.Core.Bool.{Bool, true, _&&_}
 use mathlib.Core.List.{List, [], _∷_, _++_}
 use lib.Dec.{ltb, eqb}
 use lib.ListN.{length, getD, take, drop}
-use Rattle.sed1520.specs.Choice.{if}
-use Rattle.sed1520.specs.Chip.{inRange, fresh, latched, withPage}
+use Rattle.basics.specs.Choice.{if}
+use Rattle.sed1520.specs.Chip.{inRange, fresh, latched, renewed, withPage}
 use Rattle.sed1520.specs.Panel.{Panel, panelOf}
 use Rattle.sed1520.specs.declared.registers.Chip.{Chip}
 use Rattle.sed1520.specs.declared.registers.ReadLatch.{ReadLatch}
@@ -41,36 +41,27 @@ chipBytes c =
 abbrev pub chipsBytes : Chip → Chip → List ℕ
 chipsBytes left right = chipBytes left ++ chipBytes right
 
--- the registers that 12 bytes say; a flag or a mark that is not 1 is taken for 0, and the last byte is passed over
+-- the registers that 12 bytes say, whatever they held; a flag or a mark that is not 1 is taken for 0, and the last byte is passed over
 unfoldable pub registersIn : List ℕ → Chip
 registersIn b =
-    record {
-      «display_on» = flag (getD b 0 0);
-      «static_on» = flag (getD b 1 0);
-      «duty_32» = flag (getD b 2 0);
-      reverse = flag (getD b 3 0);
-      modify = flag (getD b 4 0);
-      page = getD b 5 0;
-      «start_line» = getD b 6 0;
-      column = getD b 7 0;
-      «saved_column» = getD b 8 0;
-      latch = latchOf (getD b 9 0) (getD b 10 0);
-    }
+    renewed (λ place _. flag (getD b place 0)) (λ place _. getD b place 0) (λ _. latchOf (getD b 9 0) (getD b 10 0)) fresh
+
+-- the places of the flags and of the mark
+abbrev pub flagPlaces : List ℕ
+flagPlaces = 0 ∷ 1 ∷ 2 ∷ 3 ∷ 4 ∷ 9 ∷ []
+
+-- the bytes at some places are 0 or 1
+unfoldable pub flagsAt : List ℕ → List ℕ → Bool
+flagsAt [] b = true
+flagsAt (place ∷ places) b = ltb (getD b place 0) 2 && flagsAt places b
 
 -- the flags and the mark are 0 or 1, the last byte is 0
-unfoldable pub marksRight : List ℕ → Bool
-marksRight b =
-    ltb (getD b 0 0) 2
-    && (ltb (getD b 1 0) 2
-    && (ltb (getD b 2 0) 2
-    && (ltb (getD b 3 0) 2
-    && (ltb (getD b 4 0) 2
-    && (ltb (getD b 9 0) 2
-    && eqb (getD b 11 0) 0)))))
+unfoldable pub flagsRight : List ℕ → Bool
+flagsRight b = flagsAt flagPlaces b && eqb (getD b 11 0) 0
 
 -- number 2 lets a record of 12 bytes pass
 abbrev pub recordRight : List ℕ → Bool
-recordRight b = marksRight b && inRange (registersIn b)
+recordRight b = flagsRight b && inRange (registersIn b)
 
 -- a chip that number 2 does not let pass, with a page that is not there
 abbrev pub noChip : Chip
@@ -78,7 +69,7 @@ noChip = withPage 4 fresh
 
 -- the chip of a record; one that number 2 does not let pass where a flag, the mark or the last byte is wrong
 unfoldable pub chipIn : List ℕ → Chip
-chipIn b = if (marksRight b) (registersIn b) noChip
+chipIn b = if (flagsRight b) (registersIn b) noChip
 
 -- two chips together
 abbrev pub chipsOf : Chip → Chip → Chips

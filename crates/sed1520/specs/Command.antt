@@ -4,7 +4,7 @@ use mathlib.Core.Bool.{Bool, _&&_}
 use mathlib.Core.List.{List, [], _∷_}
 use mathlib.Core.Option.{Option, none, some}
 use lib.Dec.{ltb, leb}
-use Rattle.sed1520.specs.Choice.{if}
+use Rattle.basics.specs.Choice.{if}
 use Rattle.sed1520.specs.declared.commands.Kind.{Kind}
 use Rattle.sed1520.specs.declared.commands.Kind.the-variants.{Display, StartLine, Page, Column, Adc, Static, Duty, Modify, End, Reset}
 use Rattle.sed1520.specs.declared.commands.Command.{Command}
@@ -86,12 +86,12 @@ abbrev pub foundKind : Found → Option Kind
 foundKind (Of k) = some k
 foundKind Nothing = none
 
--- what the cases of the code's told byte stand for
+-- the number, place and value that each case of `Decoded` stands for
 abbrev pub toldCommand : Decoded → Told Command
 toldCommand (Known m) = told m
 toldCommand (Unknown b) = notTold b
 
--- what the cases of the code's made byte stand for
+-- the number, place and value that each case of `Encoded` stands for
 abbrev pub toldByte : Encoded → Told ℕ
 toldByte (Byte b) = told b
 toldByte (OutOfRange a) = notTold a

@@ -4,12 +4,13 @@ use mathlib.Core.Bool.{Bool, true, false, not, _&&_, _||_}
 use mathlib.Core.List.{List}
 use mathlib.Core.Option.{Option, none, some}
 use lib.Dec.{ltb, leb, eqb}
-use lib.ListN.{length, getD, set}
-use Rattle.sed1520.specs.Choice.{if}
+use lib.ListN.{length}
+use Rattle.basics.specs.Choice.{if}
 use Rattle.sed1520.specs.Chip.{inRange, latched, kindOf, staled}
 use Rattle.sed1520.specs.Chip.{withDisplay, withStatic, withDuty, withReverse, withPage, withStartLine, withColumn, withLatch, withModify}
 use Rattle.sed1520.specs.Command.{decodeOf, within}
-use Rattle.sed1520.specs.Memory.{ramIndex}
+use Rattle.basics.specs.Run.{Turn}
+use Rattle.sed1520.specs.Memory.{byteAt, byteSet}
 use Rattle.sed1520.specs.declared.registers.Chip.{Chip}
 use Rattle.sed1520.specs.declared.registers.ReadLatch.the-variants.{Fresh}
 use Rattle.sed1520.specs.declared.commands.Kind.{Kind}
@@ -81,14 +82,14 @@ commandWrite b c = executed b (decodeOf b .value) c
 unfoldable pub dataWrite : ℕ → Chip → List ℕ → Outcome
 dataWrite b c ram =
     if (ltb (c .column) 80)
-    (outcome (answered 0 0 (withColumn (c .column + 1) c)) (set ram (ramIndex (c .page) (c .column)) b))
+    (outcome (answered 0 0 (withColumn (c .column + 1) c)) (byteSet ram (c .page) (c .column) b))
     (outcome (answered 0 0 c) ram)
 
 -- the chip after a data read
 unfoldable pub afterRead : Chip → List ℕ → Chip
 afterRead c ram =
     if (ltb (c .column) 80)
-    (withLatch (Fresh (getD ram (ramIndex (c .page) (c .column)) 0)) (withColumn (if (c .modify) (c .column) (c .column + 1)) c))
+    (withLatch (Fresh (byteAt ram (c .page) (c .column))) (withColumn (if (c .modify) (c .column) (c .column + 1)) c))
     (staled c)
 
 -- a data read answers the read latch
@@ -103,13 +104,12 @@ statusOf c = if (c .reverse) 0 0x40 + if (c .«display_on») 0 0x20
 abbrev pub statusRead : Chip → Answer
 statusRead c = answered 3 (statusOf c) c
 
--- number 6, then the action that the control lines ask for: 2 writes a command, 3 writes data, 4 reads status, 5 reads data
+-- the action that the control lines ask for: 2 writes a command, 3 writes data, 4 reads status, 5 reads data
 unfoldable pub actionOf : ℕ → ℕ → Chip → List ℕ → Outcome
 actionOf lines b c ram =
-    if (eqb (readLine lines) (writeLine lines)) (outcome (refusal 6 c) ram)
-    (if (eqb (writeLine lines) 0)
+    if (eqb (writeLine lines) 0)
     (if (eqb (addressLine lines) 0) (outcome (commandWrite b c) ram) (dataWrite b c ram))
-    (if (eqb (addressLine lines) 0) (outcome (statusRead c) ram) (outcome (dataRead c ram) ram)))
+    (if (eqb (addressLine lines) 0) (outcome (statusRead c) ram) (outcome (dataRead c ram) ram))
 
 -- the number, 4 to 6, by which a bus record is refused whatever the chip holds, or 0
 unfoldable pub busRefusal : Record → ℕ
@@ -119,12 +119,10 @@ busRefusal r =
     (if (eqb (readLine (r .lines)) (writeLine (r .lines))) 6
     0))
 
--- a cycle past numbers 1 and 2: numbers 4 and 5, then the action
+-- a cycle past numbers 1 and 2: numbers 4 to 6, then the action
 unfoldable pub stepOf : Record → Chip → List ℕ → Outcome
 stepOf r c ram =
-    if (leb 8 (r .lines) || not (eqb (r .spare) 0)) (outcome (refusal 4 c) ram)
-    (if (leb 2 (r .chip)) (outcome (refusal 5 c) ram)
-    (actionOf (r .lines) (r .byte) c ram))
+    if (eqb (busRefusal r) 0) (actionOf (r .lines) (r .byte) c ram) (outcome (refusal (busRefusal r) c) ram)
 
 -- one cycle: numbers 1 and 2 first
 unfoldable pub cycleOf : Record → Chip → List ℕ → Outcome
@@ -132,3 +130,22 @@ cycleOf r c ram =
     if (not (eqb (length ram) 320)) (outcome (refusal 1 c) ram)
     (if (not (inRange c)) (outcome (refusal 2 c) ram)
     (stepOf r c ram))
+
+-- what an accepted record is answered, by kind: 0 a write, with byte 0; 1 a data read with a fresh latch, 2 one with a stale latch,
+-- 3 status, with the byte read
+pub record Reply : Type 0 where
+  pub kind : ℕ
+  pub byte : ℕ
+
+-- a chip and its RAM
+pub record ChipAndRam : Type 0 where
+  pub chip : Chip
+  pub ram : List ℕ
+
+-- an outcome as a turn of a run: its number, its reply and what it leads to
+abbrev pub turnOf : {S : Type 0} → Outcome → S → Turn S Reply
+turnOf o next = record { number = o .answer .number; answer = record { kind = o .answer .kind; byte = o .answer .byte }; next = next }
+
+-- a record given to one chip
+abbrev pub chipTurn : ChipAndRam → Record → Turn ChipAndRam Reply
+chipTurn s r = let o = cycleOf r (s .chip) (s .ram) in turnOf o (record { chip = o .answer .chip; ram = o .ram })

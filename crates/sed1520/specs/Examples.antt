@@ -4,13 +4,12 @@ use Prim.Native.Nat.{ℕ}
 use mathlib.Core.Path.{_≡_}
 use mathlib.Core.Bool.{true}
 use mathlib.Core.List.{List, [], _∷_, _++_}
-use lib.Dec.{eqb}
-use lib.ListN.{replicate, set}
-use Rattle.sed1520.specs.Choice.{if}
+use lib.ListN.{replicate}
+use Rattle.basics.specs.Run.{Run, ranTo, runOf}
 use Rattle.sed1520.specs.Chip.{fresh, withDisplay, withStatic, withReverse, withColumn, withStartLine}
 use Rattle.sed1520.specs.Command.{told, notTold, decodeOf}
-use Rattle.sed1520.specs.Memory.{ramIndex}
-use Rattle.sed1520.specs.Cycle.{Outcome, outcome, refusal, answered, cycleOf}
+use Rattle.sed1520.specs.Memory.{byteSet}
+use Rattle.sed1520.specs.Cycle.{Outcome, outcome, refusal, cycleOf, Reply, ChipAndRam, chipTurn}
 use Rattle.sed1520.specs.Laws.{sent}
 use Rattle.sed1520.specs.declared.registers.Chip.{Chip}
 use Rattle.sed1520.specs.declared.commands.Kind.the-variants.{StartLine}
@@ -20,14 +19,17 @@ use Rattle.sed1520.specs.declared.bus.Record.{Record}
 abbrev pub blank : List ℕ
 blank = replicate 320 0
 
--- what the last of some records gives back, each begun where the one before it left the chip and its RAM; a refused record is the last
-unfoldable pub ranFrom : Outcome → List Record → Outcome
-ranFrom o [] = o
-ranFrom o (r ∷ rs) = if (eqb (o .answer .number) 0) (ranFrom (cycleOf r (o .answer .chip) (o .ram)) rs) o
+-- a chip over its RAM
+abbrev pub chipOver : Chip → List ℕ → ChipAndRam
+chipOver c ram = record { chip = c; ram = ram }
 
--- begun at the fresh chip
-abbrev pub ran : List Record → Outcome
-ran rs = ranFrom (outcome (answered 0 0 fresh) blank) rs
+-- the fresh chip over RAM all 0
+abbrev pub start : ChipAndRam
+start = chipOver fresh blank
+
+-- the run of some records, begun there
+abbrev pub ran : List Record → Run ChipAndRam Reply
+ran rs = runOf chipTurn start rs
 
 -- a command write to chip 0
 abbrev pub command : ℕ → Record
@@ -35,11 +37,23 @@ command b = sent 2 0 b
 
 -- the fresh chip after two command bytes
 unfoldable pub commanded : ℕ → ℕ → Chip
-commanded first second = ran (command first ∷ command second ∷ []) .answer .chip
+commanded first second = ran (command first ∷ command second ∷ []) .state .chip
 
--- refused: the fresh chip and its RAM as they were
-abbrev pub refused : ℕ → Outcome
-refused n = outcome (refusal n fresh) blank
+-- what the cycle of one record gives back
+abbrev pub cycled : ChipAndRam → Record → Outcome
+cycled s r = cycleOf r (s .chip) (s .ram)
+
+-- refused: place 0, kind 0, byte 0, the chip and its RAM as they came. Said of the cycle itself: a run keeps its state there whatever the cycle does
+abbrev pub refused : ChipAndRam → ℕ → Outcome
+refused s n = outcome (refusal n (s .chip)) (s .ram)
+
+-- the answer of a kind with a byte
+abbrev pub reply : ℕ → ℕ → Reply
+reply k b = record { kind = k; byte = b }
+
+-- the answer to a write
+abbrev pub wrote : Reply
+wrote = reply 0 0
 
 -- a data write to chip 0
 abbrev pub write : ℕ → Record
@@ -58,28 +72,30 @@ abbrev pub atLastColumn : List Record
 atLastColumn = command 79 ∷ write 0xA5 ∷ []
 
 -- the sequence of P6
-abbrev pub blink : List Record
-blink = command 10 ∷ command 0xE0 ∷ read ∷ read ∷ write 0xFF ∷ []
+abbrev pub cursor : List Record
+cursor = command 10 ∷ command 0xE0 ∷ read ∷ read ∷ write 0xFF ∷ []
 
 -- P1 to P4, P6, P7, P10 and P11
 pub record ChipExamples : Type 0 where
-  pub p1 : ran atLastColumn ≡ outcome (answered 0 0 (withColumn 80 fresh)) (set blank (ramIndex 0 79) 0xA5)
-  pub p2 : ran (atLastColumn ++ (write 0x3C ∷ [])) ≡ ran atLastColumn
-  pub p3 : ran (command 100 ∷ write 0xA5 ∷ []) ≡ outcome (answered 0 0 (withColumn 100 fresh)) blank
-  pub p4-fresh : ran (status ∷ []) .answer ≡ answered 3 0x60 fresh
-  pub p4-on-reverse : ran (command 0xAF ∷ command 0xA1 ∷ status ∷ []) .answer ≡ answered 3 0x00 (withReverse true (withDisplay true fresh))
-  pub p6-counted : (ran blink .answer .number ≡ 0) × (ran blink .answer .chip .column ≡ 11)
-  pub p6-returned : (ran (blink ++ (command 0xEE ∷ [])) .answer .number ≡ 0) × (ran (blink ++ (command 0xEE ∷ [])) .answer .chip .column ≡ 10)
-  pub p7 : ran (command 0xE0 ∷ command 0x05 ∷ []) ≡ outcome (refusal 8 (ran (command 0xE0 ∷ []) .answer .chip)) (ran (command 0xE0 ∷ []) .ram)
-  pub p10-80 : (ran (command 0x80 ∷ []) ≡ refused 7) × (decodeOf 0x80 ≡ notTold 0x80)
-  pub p10-ac : (ran (command 0xAC ∷ []) ≡ refused 7) × (decodeOf 0xAC ≡ notTold 0xAC)
-  pub p10-bc : (ran (command 0xBC ∷ []) ≡ refused 7) × (decodeOf 0xBC ≡ notTold 0xBC)
-  pub p10-e3 : (ran (command 0xE3 ∷ []) ≡ refused 7) × (decodeOf 0xE3 ≡ notTold 0xE3)
-  pub p10-df : (ran (command 0xDF ∷ []) ≡ outcome (answered 0 0 (withStartLine 31 fresh)) blank)
+  pub p1 : ran atLastColumn ≡ ranTo 0 (wrote ∷ wrote ∷ []) (chipOver (withColumn 80 fresh) (byteSet blank 0 79 0xA5))
+  pub p2 : ran (atLastColumn ++ (write 0x3C ∷ [])) ≡ ranTo 0 (wrote ∷ wrote ∷ wrote ∷ []) (ran atLastColumn .state)
+  pub p3 : ran (command 100 ∷ write 0xA5 ∷ []) ≡ ranTo 0 (wrote ∷ wrote ∷ []) (chipOver (withColumn 100 fresh) blank)
+  pub p4-fresh : ran (status ∷ []) ≡ ranTo 0 (reply 3 0x60 ∷ []) start
+  pub p4-on-reverse : ran (command 0xAF ∷ command 0xA1 ∷ status ∷ [])
+      ≡ ranTo 0 (wrote ∷ wrote ∷ reply 3 0x00 ∷ []) (chipOver (withReverse true (withDisplay true fresh)) blank)
+  pub p6-counted : (ran cursor .number ≡ 0) × (ran cursor .state .chip .column ≡ 11)
+  pub p6-returned : (ran (cursor ++ (command 0xEE ∷ [])) .number ≡ 0) × (ran (cursor ++ (command 0xEE ∷ [])) .state .chip .column ≡ 10)
+  pub p7-on : ran (command 0xE0 ∷ []) .number ≡ 0
+  pub p7 : let s = ran (command 0xE0 ∷ []) .state in cycled s (command 0x05) ≡ refused s 8
+  pub p10-80 : (cycled start (command 0x80) ≡ refused start 7) × (decodeOf 0x80 ≡ notTold 0x80)
+  pub p10-ac : (cycled start (command 0xAC) ≡ refused start 7) × (decodeOf 0xAC ≡ notTold 0xAC)
+  pub p10-bc : (cycled start (command 0xBC) ≡ refused start 7) × (decodeOf 0xBC ≡ notTold 0xBC)
+  pub p10-e3 : (cycled start (command 0xE3) ≡ refused start 7) × (decodeOf 0xE3 ≡ notTold 0xE3)
+  pub p10-df : (ran (command 0xDF ∷ []) ≡ ranTo 0 (wrote ∷ []) (chipOver (withStartLine 31 fresh) blank))
       × (decodeOf 0xDF ≡ told (record { kind = StartLine; argument = 31 }))
-  pub p11-0 : (b : ℕ) → ran (sent 0 0 b ∷ []) ≡ refused 6
-  pub p11-6 : (b : ℕ) → ran (sent 6 0 b ∷ []) ≡ refused 6
-  pub p11-8 : (b : ℕ) → ran (sent 8 2 b ∷ []) ≡ refused 4
+  pub p11-0 : (b : ℕ) → cycled start (sent 0 0 b) ≡ refused start 6
+  pub p11-6 : (b : ℕ) → cycled start (sent 6 0 b) ≡ refused start 6
+  pub p11-8 : (b : ℕ) → cycled start (sent 8 2 b) ≡ refused start 4
 
 -- the chips that the frame's examples begin at
 pub record CommandedChips : Type 0 where

@@ -1,42 +1,42 @@
 -- The laws by which the layers above know the cycle: what the records that they send do to the registers that they look at and to the
--- RAM. The read latch, the saved column and columns from 80 up are left unsaid.
+-- RAM. The read latch, the saved column and what a cycle does from column 80 on are left unsaid.
 use Prim.Native.Nat.{ℕ, _+_, _<_}
 use mathlib.Core.Path.{_≡_}
 use mathlib.Core.Bool.{Bool, true, false}
 use mathlib.Core.List.{List}
-use lib.ListN.{length, set}
+use lib.ListN.{length}
 use Rattle.sed1520.specs.Chip.{inRange, withPage, withColumn, withStartLine}
 use Rattle.sed1520.specs.Command.{first}
-use Rattle.sed1520.specs.Memory.{ramIndex}
+use Rattle.sed1520.specs.Memory.{byteSet}
 use Rattle.sed1520.specs.Cycle.{cycleOf}
+use Rattle.sed1520.specs.Panel.{Panel}
 use Rattle.sed1520.specs.declared.registers.Chip.{Chip}
 use Rattle.sed1520.specs.declared.commands.Kind.the-variants.{StartLine, Page, Column}
 use Rattle.sed1520.specs.declared.bus.Record.{Record}
 
--- the registers that a frame looks at, or a later record of a repaint
-pub record Registers : Type 0 where
+-- the registers that a frame looks at
+pub record ShownRegisters : Type 0 where
   pub display : Bool
   pub static : Bool
   pub duty : Bool
   pub reverse : Bool
+  pub line : ℕ
+
+-- those of a chip
+abbrev pub shownBy : Chip → ShownRegisters
+shownBy c =
+    record { display = c .«display_on»; static = c .«static_on»; duty = c .«duty_32»; reverse = c .reverse; line = c .«start_line» }
+
+-- with the registers that a later record of a repaint looks at
+pub record Registers : Type 0 where
+  pub shown : ShownRegisters
   pub modify : Bool
   pub page : ℕ
-  pub line : ℕ
   pub column : ℕ
 
 -- those of a chip
 abbrev pub registers : Chip → Registers
-registers c =
-    record {
-      display = c .«display_on»;
-      static = c .«static_on»;
-      duty = c .«duty_32»;
-      reverse = c .reverse;
-      modify = c .modify;
-      page = c .page;
-      line = c .«start_line»;
-      column = c .column;
-    }
+registers c = record { shown = shownBy c; modify = c .modify; page = c .page; column = c .column }
 
 -- a record whose fourth byte is 0
 abbrev pub sent : ℕ → ℕ → ℕ → Record
@@ -47,12 +47,18 @@ pub record Fit (c : Chip) (ram : List ℕ) : Type 0 where
   pub range : inRange c ≡ true
   pub bytes : length ram ≡ 320
 
+-- both chips so, over the whole image
+pub record Whole (p : Panel) : Type 0 where
+  pub left : inRange (p .left) ≡ true
+  pub right : inRange (p .right) ≡ true
+  pub image : length (p .ram) ≡ 640
+
 -- the cycle accepts the record, with these registers and this RAM afterwards, the chip and its RAM fit again
 pub record Accepts (r : Record) (c : Chip) (ram : List ℕ) (next : Registers) (after : List ℕ) : Type 0 where
   pub number : cycleOf r c ram .answer .number ≡ 0
   pub place : cycleOf r c ram .answer .place ≡ 0
-  pub shown : registers (cycleOf r c ram .answer .chip) ≡ next
-  pub stored : cycleOf r c ram .ram ≡ after
+  pub registers-after : registers (cycleOf r c ram .answer .chip) ≡ next
+  pub ram-after : cycleOf r c ram .ram ≡ after
   pub fit : Fit (cycleOf r c ram .answer .chip) (cycleOf r c ram .ram)
 
 -- the page set, the start line set, the column set below 80 with read-modify-write off, and the data write below column 80, on either chip
@@ -64,4 +70,4 @@ pub record CycleLaws : Type 0 where
   pub column-set : (c : Chip) (ram : List ℕ) → Fit c ram → (k : ℕ) → k < 2 → (n : ℕ) → n < 80 → c .modify ≡ false
       → Accepts (sent 2 k (first Column + n)) c ram (registers (withColumn n c)) ram
   pub data-write : (c : Chip) (ram : List ℕ) → Fit c ram → (k : ℕ) → k < 2 → (b : ℕ) → c .column < 80
-      → Accepts (sent 3 k b) c ram (registers (withColumn (c .column + 1) c)) (set ram (ramIndex (c .page) (c .column)) b)
+      → Accepts (sent 3 k b) c ram (registers (withColumn (c .column + 1) c)) (byteSet ram (c .page) (c .column) b)

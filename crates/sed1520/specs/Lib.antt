@@ -1,4 +1,3 @@
-pub mod Choice
 pub mod Chip
 pub mod Command
 pub mod Memory
@@ -10,3 +9,4 @@ pub mod Records
 pub mod Laws
 pub mod Promises
 pub mod Examples
+pub mod Verdict

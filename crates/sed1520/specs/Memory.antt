@@ -1,6 +1,16 @@
 -- A chip's 320 bytes of display RAM, 4 pages of 80 columns.
 use Prim.Native.Nat.{ℕ, _+_, _*_}
+use mathlib.Core.List.{List}
+use lib.ListN.{getD, set}
 
--- the place of the byte of a page and a column
-abbrev pub ramIndex : ℕ → ℕ → ℕ
+-- where the byte of a page and a column lies
+unfoldable pub ramIndex : ℕ → ℕ → ℕ
 ramIndex page column = 80 * page + column
+
+-- the byte of a page and a column
+abbrev pub byteAt : List ℕ → ℕ → ℕ → ℕ
+byteAt ram page column = getD ram (ramIndex page column) 0
+
+-- the RAM with that byte written
+abbrev pub byteSet : List ℕ → ℕ → ℕ → ℕ → List ℕ
+byteSet ram page column b = set ram (ramIndex page column) b

@@ -1,10 +1,11 @@
 -- Two chips on one bus over one RAM image of 640 bytes. A record goes to the chip that it names, with that chip's 320 bytes.
 use Prim.Native.Nat.{ℕ}
-use mathlib.Core.List.{List, [], _∷_, _++_}
+use mathlib.Core.List.{List}
 use lib.Dec.{eqb}
-use lib.ListN.{take, drop}
-use Rattle.sed1520.specs.Choice.{if}
-use Rattle.sed1520.specs.Cycle.{Outcome, cycleOf}
+use Rattle.basics.specs.Choice.{if}
+use Rattle.basics.specs.Halves.{partAt, partPut}
+use Rattle.basics.specs.Run.{Turn, Run, runOf}
+use Rattle.sed1520.specs.Cycle.{Outcome, cycleOf, Reply, turnOf}
 use Rattle.sed1520.specs.declared.registers.Chip.{Chip}
 use Rattle.sed1520.specs.declared.bus.Record.{Record}
 
@@ -24,14 +25,11 @@ chipAt p k = if (eqb k 0) (p .left) (p .right)
 
 -- a chip's 320 bytes of the image
 abbrev pub ramAt : Panel → ℕ → List ℕ
-ramAt p k = if (eqb k 0) (take 320 (p .ram)) (drop 320 (p .ram))
+ramAt p k = partAt 320 k (p .ram)
 
 -- a chip and its bytes put in place, the other chip and its bytes as they were
 abbrev pub put : Panel → ℕ → Chip → List ℕ → Panel
-put p k c bytes =
-    if (eqb k 0)
-    (record { left = c; right = p .right; ram = bytes ++ drop 320 (p .ram) })
-    (record { left = p .left; right = c; ram = take 320 (p .ram) ++ bytes })
+put p k c bytes = panelOf (if (eqb k 0) c (p .left)) (if (eqb k 0) (p .right) c) (partPut 320 k (p .ram) bytes)
 
 -- what the cycle of the chip that the record names gives back
 unfoldable pub outcomeOf : Panel → Record → Outcome
@@ -41,7 +39,14 @@ outcomeOf p r = cycleOf r (chipAt p (r .chip)) (ramAt p (r .chip))
 unfoldable pub stepped : Panel → Record → Panel
 stepped p r = put p (r .chip) (outcomeOf p r .answer .chip) (outcomeOf p r .ram)
 
--- the panel after a list of records, one after the other; a refused one changes nothing, and the next follows
-unfoldable pub after : Panel → List Record → Panel
-after p [] = p
-after p (r ∷ rs) = after (stepped p r) rs
+-- a record given to the panel
+abbrev pub panelTurn : Panel → Record → Turn Panel Reply
+panelTurn p r = turnOf (outcomeOf p r) (stepped p r)
+
+-- the records one after the other on a panel, up to the first that is refused
+abbrev pub panelRun : Panel → List Record → Run Panel Reply
+panelRun p rs = runOf panelTurn p rs
+
+-- the panel that they lead to, or those before the first that is refused
+abbrev pub after : Panel → List Record → Panel
+after p rs = panelRun p rs .state

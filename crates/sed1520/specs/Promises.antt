@@ -5,13 +5,13 @@ use mathlib.Core.Bool.{Bool, true, false}
 use mathlib.Core.List.{List, [], _∷_}
 use lib.Dec.{eqb}
 use lib.ListN.{length, take, drop}
-use Rattle.sed1520.specs.Choice.{if}
+use Rattle.basics.specs.Choice.{if}
 use Rattle.sed1520.specs.Chip.{inRange, fresh}
-use Rattle.sed1520.specs.ChipRecord.{chipBytes, chipsBytes, marksRight, recordRight, chipIn, chipsOf, chipsIn, panelIn, RecordsFit}
+use Rattle.sed1520.specs.ChipRecord.{chipBytes, chipsBytes, flagsRight, recordRight, chipIn, chipsOf, chipsIn, panelIn, RecordsFit}
 use Rattle.sed1520.specs.Command.{first, count, told, notTold, decodeOf, encodeOf}
 use Rattle.sed1520.specs.Cycle.{Outcome, outcome, refusal, stepOf, cycleOf}
 use Rattle.sed1520.specs.Panel.{Panel, chipAt, ramAt, outcomeOf, stepped}
-use Rattle.sed1520.specs.RecordStep.{stepRecords}
+use Rattle.sed1520.specs.RecordStep.{Acted, stepRecords}
 use Rattle.sed1520.specs.declared.registers.Chip.{Chip}
 use Rattle.sed1520.specs.declared.commands.Command.{Command}
 use Rattle.sed1520.specs.declared.bus.Record.{Record}
@@ -75,7 +75,7 @@ EveryRecordApart = (p : Panel) → length (p .ram) ≡ 640 → (r : Record) → 
 -- the other for two records that pass; the record of the fresh chip
 pub record RecordsUndo : Type 0 where
   pub there : (c : Chip) → chipIn (chipBytes c) ≡ c
-  pub back : (b : List ℕ) → length b ≡ 12 → marksRight b ≡ true → chipBytes (chipIn b) ≡ b
+  pub back : (b : List ℕ) → length b ≡ 12 → flagsRight b ≡ true → chipBytes (chipIn b) ≡ b
   pub passes : (b : List ℕ) → inRange (chipIn b) ≡ recordRight b
   pub chip-passes : (c : Chip) → recordRight (chipBytes c) ≡ inRange c
   pub two-there : (left right : Chip) → chipsIn (chipsBytes left right) ≡ chipsOf left right
@@ -83,14 +83,14 @@ pub record RecordsUndo : Type 0 where
       → chipsBytes (chipsIn chips .left) (chipsIn chips .right) ≡ chips
   pub fresh-record : chipBytes fresh ≡ 0 ∷ 0 ∷ 1 ∷ 0 ∷ 0 ∷ 0 ∷ 0 ∷ 0 ∷ 0 ∷ 0 ∷ 0 ∷ 0 ∷ []
 
--- a step over records is the cycle of the chip that the bus record names: its answer, the panel after it, and records that pass again
-pub record StepsPanel (r : Record) (chips ram : List ℕ) : Type 0 where
-  pub number : stepRecords r chips ram .answer .number ≡ outcomeOf (panelIn chips ram) r .answer .number
-  pub kind : stepRecords r chips ram .answer .kind ≡ outcomeOf (panelIn chips ram) r .answer .kind
-  pub byte : stepRecords r chips ram .answer .byte ≡ outcomeOf (panelIn chips ram) r .answer .byte
-  pub panel : panelIn (stepRecords r chips ram .chips) (stepRecords r chips ram .ram) ≡ stepped (panelIn chips ram) r
-  pub fit : RecordsFit (stepRecords r chips ram .chips) (stepRecords r chips ram .ram)
+-- what a step over chip records gives and leaves is what the cycle of the chip named gives and leaves on the panel; and the records pass again
+pub record StepsPanel (p : Panel) (r : Record) (s : Acted) : Type 0 where
+  pub number : s .answer .number ≡ outcomeOf p r .answer .number
+  pub kind : s .answer .kind ≡ outcomeOf p r .answer .kind
+  pub byte : s .answer .byte ≡ outcomeOf p r .answer .byte
+  pub panel : panelIn (s .chips) (s .ram) ≡ stepped p r
+  pub fit : RecordsFit (s .chips) (s .ram)
 
 -- on every two records that number 2 lets pass over the whole image
 abbrev pub EveryRecordStep : Type 0
-EveryRecordStep = (r : Record) (chips ram : List ℕ) → RecordsFit chips ram → StepsPanel r chips ram
+EveryRecordStep = (r : Record) (chips ram : List ℕ) → RecordsFit chips ram → StepsPanel (panelIn chips ram) r (stepRecords r chips ram)

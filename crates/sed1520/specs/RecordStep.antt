@@ -3,10 +3,11 @@
 -- of the chip that the bus record names (EveryRecordStep).
 use Prim.Native.Nat.{ℕ}
 use mathlib.Core.Bool.{not, _||_}
-use mathlib.Core.List.{List, _++_}
+use mathlib.Core.List.{List}
 use lib.Dec.{eqb}
-use lib.ListN.{length, take, drop, set}
-use Rattle.sed1520.specs.Choice.{if}
+use lib.ListN.{length, set}
+use Rattle.basics.specs.Choice.{if}
+use Rattle.basics.specs.Halves.{partAt, partPut}
 use Rattle.sed1520.specs.Chip.{latched}
 use Rattle.sed1520.specs.ChipRecord.{mark, chipBytes, registersIn}
 use Rattle.sed1520.specs.Cycle.{Outcome, busRefusal, commandWrite, dataWrite, dataRead, statusRead}
@@ -23,7 +24,7 @@ bare a = record { number = a .number; kind = a .kind; byte = a .byte }
 abbrev pub bareRefusal : ℕ → BareAnswer
 bareRefusal n = record { number = n; kind = 0; byte = 0 }
 
--- what a step gives back, and the chip records and the RAM afterwards
+-- what a step on both chip records, or an action on one, gives back, and these records and their RAM afterwards
 pub record Acted : Type 0 where
   pub answer : BareAnswer
   pub chips : List ℕ
@@ -56,18 +57,6 @@ actionOn lines byte b ram =
     (if (eqb lines 4) (acted (bare (statusRead (registersIn b))) b ram)
     (if (eqb lines 5) (acted (bare (dataRead (registersIn b) ram)) (readBytes b (dataRead (registersIn b) ram .chip)) ram)
     (acted (bare (commandWrite byte (registersIn b))) (commandBytes b (commandWrite byte (registersIn b))) ram)))
-
--- where part k of two parts of n bytes begins
-abbrev pub startOf : ℕ → ℕ → ℕ
-startOf n k = if (eqb k 0) 0 n
-
--- the front or the rear of two parts of n bytes
-abbrev pub partAt : ℕ → ℕ → List ℕ → List ℕ
-partAt n k bytes = if (eqb k 0) (take n bytes) (drop n bytes)
-
--- that part replaced, the other as it was
-abbrev pub partPut : ℕ → ℕ → List ℕ → List ℕ → List ℕ
-partPut n k bytes part = if (eqb k 0) (part ++ drop n bytes) (take n bytes ++ part)
 
 -- what an action leaves of its own chip's record and RAM, put in place
 abbrev pub putBack : ℕ → List ℕ → List ℕ → Acted → Acted

@@ -6,7 +6,7 @@ use crate::actions::Answer;
 use crate::registers::Chip;
 
 // The RAM image of both chips.
-pub const IMAGE_BYTES: usize = 640;
+pub const IMAGE_BYTES: usize = 2 * Chip::RAM_WIDTH;
 
 // What one cycle carried: the control lines (bit 0 A0, bit 1 RD, bit 2 WR, both active low), the chip that is
 // addressed, the byte on the bus, and a spare byte.

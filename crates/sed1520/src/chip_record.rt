@@ -1,7 +1,7 @@
 // A chip as a record of 12 bytes, both ways.
 ghost use mathlib.Core.Path.{_≡_};
 ghost use lib.ListN.{length};
-ghost use Rattle.sed1520.specs.ChipRecord.{bit, mark, latchOf, chipBytes, chipsBytes, registersIn, marksRight, noChip, chipIn, chipsIn};
+ghost use Rattle.sed1520.specs.ChipRecord.{bit, mark, latchOf, chipBytes, chipsBytes, registersIn, flagsRight, noChip, chipIn, chipsIn};
 use crate::registers::Chip;
 use crate::registers::ReadLatch;
 
@@ -69,9 +69,9 @@ pub(crate) fn registers_in(bytes: &[u8]) -> Chip
 }
 
 // Whether the flags and the mark are 0 or 1 and the last byte is 0.
-fn marks_right(bytes: &[u8]) -> bool
+fn flags_right(bytes: &[u8]) -> bool
     requires { ⌜ length (now bytes) ≡ 12 ⌝ }
-    ensures { λ r. ⌜ r ≡ marksRight (now (bytes .entry)) ⌝ }
+    ensures { λ r. ⌜ r ≡ flagsRight (now (bytes .entry)) ⌝ }
 {
     if 2 <= bytes[0] {
         return false;
@@ -108,7 +108,7 @@ fn chip_in(bytes: &[u8]) -> Chip
     requires { ⌜ length (now bytes) ≡ 12 ⌝ }
     ensures { λ r. ⌜ r ≡ chipIn (now (bytes .entry)) ⌝ }
 {
-    if !marks_right(bytes) {
+    if !flags_right(bytes) {
         return no_chip();
     }
     registers_in(bytes)

@@ -5,6 +5,7 @@ pub mod bus;
 pub mod chip_record;
 pub mod commands;
 mod effects;
-mod memory;
+pub mod memory;
 pub mod record_step;
 pub mod registers;
+pub mod verdict;

@@ -1,19 +1,18 @@
 // A chip's display RAM: where the byte of a page and a column stands, and that byte read and written.
 ghost use mathlib.Core.Path.{_≡_};
-ghost use lib.ListN.{getD, set};
-ghost use Rattle.sed1520.specs.Memory.{ramIndex};
+ghost use Rattle.sed1520.specs.Memory.{ramIndex, byteAt, byteSet};
 use crate::registers::Chip;
 
 // The place of the byte.
-pub(crate) fn index(page: u8, column: u8) -> usize
+pub fn index(page: u8, column: u8) -> usize
     ensures { λ r. ⌜ r ≡ ramIndex page column ⌝ }
 {
     Chip::PAGE_WIDTH * (page as usize) + (column as usize)
 }
 
-// The byte, or 0 where the RAM has none there.
+// The byte of a page and a column, or 0 where the RAM has none there.
 pub(crate) fn load(ram: &[u8], page: u8, column: u8) -> u8
-    ensures { λ r. ⌜ r ≡ getD (now (ram .entry)) (ramIndex page column) 0 ⌝ }
+    ensures { λ r. ⌜ r ≡ byteAt (now (ram .entry)) page column ⌝ }
 {
     let at = index(page, column);
     if at < ram.len() { ram[at] } else { 0 }
@@ -21,7 +20,7 @@ pub(crate) fn load(ram: &[u8], page: u8, column: u8) -> u8
 
 // Writes the byte, or nothing where the RAM has none there.
 pub(crate) fn store(ram: &mut [u8], page: u8, column: u8, byte: u8)
-    ensures { λ _. ⌜ now (ram .exit) ≡ set (now (ram .entry)) (ramIndex page column) byte ⌝ }
+    ensures { λ _. ⌜ now (ram .exit) ≡ byteSet (now (ram .entry)) page column byte ⌝ }
 {
     let at = index(page, column);
     if at < ram.len() {

@@ -62,11 +62,11 @@ impl Chip {
     // The segments that a chip drives.
     pub const SEGMENTS: usize = 61;
     // The columns of the panel: the segments of two chips.
-    pub const PANEL_WIDTH: usize = 122;
+    pub const PANEL_WIDTH: usize = 2 * Chip::SEGMENTS;
     // The bytes of a page of display RAM.
     pub const PAGE_WIDTH: usize = 80;
     // The bytes of a chip's four pages.
-    pub const RAM_WIDTH: usize = 320;
+    pub const RAM_WIDTH: usize = 4 * Chip::PAGE_WIDTH;
 
     // The chip before its first cycle, a project rule.
     pub fn fresh() -> Chip

@@ -1,102 +1,23 @@
 -- For every k up to the place, the replay of the first k records is done and leaves what the whole replay had after k.
-use Prim.Native.Nat.{ℕ, zero, suc, _+_, _*_, _/_, _<_, _≤_}
+use Prim.Native.Nat.{ℕ, suc, _*_, _/_, _<_, _≤_}
 use native.Mathlib.Omega.{arith}
-use mathlib.Core.Path.{_≡_, refl, _∙_}
-use mathlib.Core.Bool.{true, false}
+use mathlib.Core.Path.{_≡_, _∙_}
 use mathlib.Core.List.{List, [], _∷_, _++_}
-use mathlib.Core.Logic.{⊎-elim}
-use lib.Dec.{eqb}
-use lib.ListN.{length, getD, take, drop, length-drop, List·getD-append}
-use lib.Seq.{length-take-le, take-add, drop-at, getD-take}
-use Rattle.sed1520.specs.Panel.{Panel, outcomeOf, stepped, after}
-use Rattle.sed1520.specs.declared.bus.Record.{Record}
-use Rattle.sed1520.proofs.Tests.{tested}
-use Rattle.sed1520.specs.Records.{front, recordsIn, wholeRecords}
-use Rattle.trace.specs.Replay.{Reply, Run, replied, runOf, differingIn, ended, replayOf}
+use lib.ListN.{length, getD, take, drop}
+use lib.Seq.{length-take-le}
+use Rattle.basics.specs.Run.{ranTo}
+use Rattle.basics.proofs.Run.{run-prefix, answers-bound, Next, run-next}
+use Rattle.sed1520.specs.Panel.{Panel, outcomeOf, stepped, panelTurn, after}
+use Rattle.sed1520.specs.Records.{front, wholeRecords}
+use Rattle.sed1520.proofs.Records.{records-length, record-at, records-prefix}
+use Rattle.trace.specs.Replay.{ended, replayOf}
 use Rattle.trace.specs.Promises.{Runs, repliesOf, AfterEach, AfterEachRecord}
+use Rattle.trace.proofs.Counts.{differing-prefix}
 use Rattle.trace.proofs.ReplayCases.{runs}
 
--- a run and its panel, record by record
-pub run-none : (p : Panel) → runOf p [] ≡ record { number = 0; replies = []; panel = p }
-unfolding runOf
-run-none p = refl
-
-pub run-accepted : (p : Panel) (r : Record) (rs : List Record) → eqb (outcomeOf p r .answer .number) 0 ≡ true
-    → runOf p (r ∷ rs) ≡ replied (outcomeOf p r .answer .kind) (outcomeOf p r .answer .byte) (runOf (stepped p r) rs)
-unfolding runOf
-run-accepted p r rs t = rw t
-
-pub run-refused : (p : Panel) (r : Record) (rs : List Record) → eqb (outcomeOf p r .answer .number) 0 ≡ false
-    → runOf p (r ∷ rs) ≡ record { number = outcomeOf p r .answer .number; replies = []; panel = p }
-unfolding runOf
-run-refused p r rs t = rw t
-
-pub after-none : (p : Panel) → after p [] ≡ p
-unfolding after
-after-none p = refl
-
-pub after-one : (p : Panel) (r : Record) (rs : List Record) → after p (r ∷ rs) ≡ after (stepped p r) rs
-unfolding after
-after-one p r rs = refl
-
--- a run that was done after the first k records, with the first k of these replies
-abbrev firstOf : ℕ → Panel → List Record → List Reply → Run
-firstOf k p rs given = record { number = 0; replies = take k given; panel = after p (take k rs) }
-
--- a run of the first k records, where the whole run replied to as many
-run-prefix : (k : ℕ) (rs : List Record) (p : Panel) → k ≤ length (runOf p rs .replies)
-    → runOf p (take k rs) ≡ firstOf k p rs (runOf p rs .replies)
-run-prefix zero rs p h = rw (run-none p, after-none p)
-run-prefix (suc k) [] p h = let h′ = rw run-none at h in absurd (omega arith)
-run-prefix (suc k) (r ∷ rs) p h =
-    ⊎-elim
-    (λ accepted. let h′ = rw (run-accepted p r rs accepted) at h in
-    let ih = run-prefix k rs (stepped p r) (omega arith) in
-    rw (run-accepted p r rs accepted, run-accepted p r (take k rs) accepted, after-one p r (take k rs), ih))
-    (λ refused. let h′ = rw (run-refused p r rs refused) at h in absurd (omega arith))
-    (tested (eqb (outcomeOf p r .answer .number) 0))
-
--- no more replies than records
-pub replies-bound : (rs : List Record) (p : Panel) → length (runOf p rs .replies) ≤ length rs
-replies-bound [] p = rw (run-none p) (omega arith)
-replies-bound (r ∷ rs) p =
-    ⊎-elim
-    (λ accepted. let ih = replies-bound rs (stepped p r) in rw (run-accepted p r rs accepted) (omega arith))
-    (λ refused. rw (run-refused p r rs refused) (omega arith))
-    (tested (eqb (outcomeOf p r .answer .number) 0))
-
--- the counts of the first k replies need only the first k records
-differing-prefix : (k : ℕ) (given : List Reply) (rs : List Record)
-    → differingIn (take k given) (take k rs) ≡ differingIn (take k given) rs
-unfolding differingIn
-differing-prefix zero given rs = refl
-differing-prefix (suc k) [] rs = refl
-differing-prefix (suc k) (a ∷ given) [] = refl
-differing-prefix (suc k) (a ∷ given) (r ∷ rs) = rw (differing-prefix k given rs)
-
--- the first four bytes make the first record
-front-take : (bytes more : List ℕ) → 4 ≤ length bytes → front (take 4 bytes ++ more) ≡ front bytes
-front-take bytes more h = rw (at 0 (omega arith), at 1 (omega arith), at 2 (omega arith), at 3 (omega arith))
-  where
-    at : (i : ℕ) → i < 4 → getD (take 4 bytes ++ more) i 0 ≡ getD bytes i 0
-    at i l = List·getD-append (take 4 bytes) more 0 i (omega (arith, length-take-le 4 bytes h)) ∙ getD-take 4 bytes i 0 l
-
-records-prefix : (k n : ℕ) (bytes : List ℕ) → k ≤ n → 4 * n ≤ length bytes
-    → recordsIn (take (4 * k) bytes) k ≡ take k (recordsIn bytes n)
-unfolding recordsIn
-records-prefix zero n bytes h l = refl
-records-prefix (suc k) zero bytes h l = absurd (omega arith)
-records-prefix (suc k) (suc n) bytes h l =
-    let e : 4 * suc k ≡ 4 + 4 * k = omega arith in
-    let more = take (4 * k) (drop 4 bytes) in
-    let four = length-take-le 4 bytes (omega arith) in
-    let rest = records-prefix k n (drop 4 bytes) (omega arith) (simp length-drop (omega arith)) in
-    rw (e, take-add 4 (4 * k) bytes, front-take bytes more (omega arith), drop-at (take 4 bytes) more 4 four, rest)
-
-pub records-length : (n : ℕ) (bytes : List ℕ) → length (recordsIn bytes n) ≡ n
-unfolding recordsIn
-records-length zero bytes = refl
-records-length (suc n) bytes = rw (records-length n (drop 4 bytes))
+-- no more replies than the trace has records
+pub replies-bound : (p : Panel) (trace : List ℕ) → length (repliesOf p trace) ≤ length trace / 4
+replies-bound p trace = omega (arith, answers-bound panelTurn (wholeRecords trace) p, records-length (length trace / 4) trace)
 
 module _ (p : Panel) (trace answers : List ℕ) (r : Runs p trace answers) (k : ℕ) (h : k ≤ replayOf p trace answers .place) where
   replied-to : k ≤ length (repliesOf p trace)
@@ -104,7 +25,7 @@ module _ (p : Panel) (trace answers : List ℕ) (r : Runs p trace answers) (k : 
   replied-to = rw (runs p trace answers r) at h
 
   recorded : k ≤ length trace / 4
-  recorded = omega (arith, replied-to, replies-bound (wholeRecords trace) p, records-length (length trace / 4) trace)
+  recorded = omega (arith, replied-to, replies-bound p trace)
 
   bytes : length (take (4 * k) trace) ≡ 4 * k
   bytes = length-take-le (4 * k) trace (omega (arith, recorded))
@@ -113,10 +34,8 @@ module _ (p : Panel) (trace answers : List ℕ) (r : Runs p trace answers) (k : 
   prefix-runs =
       record {
         size = omega (arith, r .size, bytes, recorded);
-        image = r .image;
         space = omega (arith, r .space, bytes, recorded);
-        left = r .left;
-        right = r .right;
+        panel = r .panel;
         whole = omega (arith, bytes);
       }
 
@@ -127,22 +46,46 @@ module _ (p : Panel) (trace answers : List ℕ) (r : Runs p trace answers) (k : 
 
   -- the replay of the first k records
   prefix : replayOf p (take (4 * k) trace) answers
-      ≡ ended (firstOf k p (wholeRecords trace) (repliesOf p trace)) (take k (wholeRecords trace)) answers
-  prefix = runs p (take (4 * k) trace) answers prefix-runs ∙ rw (prefix-records, run-prefix k (wholeRecords trace) p replied-to)
+      ≡ ended (ranTo 0 (take k (repliesOf p trace)) (after p (take k (wholeRecords trace)))) (take k (wholeRecords trace)) answers
+  prefix = runs p (take (4 * k) trace) answers prefix-runs ∙ rw prefix-records (rw (run-prefix panelTurn k (wholeRecords trace) p replied-to))
 
   replied-length : length (take k (repliesOf p trace)) ≡ k
   replied-length = length-take-le k (repliesOf p trace) replied-to
 
+  pub panel-then : replayOf p (take (4 * k) trace) answers .panel ≡ after p (take k (wholeRecords trace))
+  unfolding ended
+  panel-then = rw prefix
+
+module _ (p : Panel) (trace answers : List ℕ) (r : Runs p trace answers) (k : ℕ) (h : k ≤ replayOf p trace answers .place) where
+  -- the record at k
+  module _ (l : k < replayOf p trace answers .place) where
+    on-records : Next panelTurn (front []) k (wholeRecords trace) p
+    on-records = run-next panelTurn (front []) k (wholeRecords trace) p (replied-to p trace answers r (suc k) l)
+
+    there : getD (wholeRecords trace) k (front []) ≡ front (drop (4 * k) trace)
+    there = record-at (length trace / 4) k trace (front []) (omega (arith, recorded p trace answers r (suc k) l))
+
+    answer : let a = outcomeOf (replayOf p (take (4 * k) trace) answers .panel) (front (drop (4 * k) trace)) .answer in
+        (a .number ≡ 0) × (take (suc k) (repliesOf p trace) ≡ take k (repliesOf p trace) ++ (record { kind = a .kind; byte = a .byte } ∷ []))
+    answer = rw (panel-then p trace answers r k h, ← there) (on-records .accepted, on-records .answer)
+
+    next : replayOf p (take (4 * suc k) trace) answers .panel ≡ stepped (replayOf p (take (4 * k) trace) answers .panel) (front (drop (4 * k) trace))
+    next = rw (panel-then p trace answers r (suc k) l, panel-then p trace answers r k h, ← there) (on-records .state)
+
   pub after-each : AfterEach p trace answers k
   unfolding ended
   after-each =
+      let first = prefix p trace answers r k h in
+      let many = replied-length p trace answers r k h in
       record {
-        number = rw prefix;
-        place = rw prefix replied-length;
-        compared = rw prefix;
-        differing = rw prefix (differing-prefix k (repliesOf p trace) (wholeRecords trace));
-        panel = rw prefix;
-        answers-then = rw (prefix, replied-length);
+        number = rw first;
+        place = rw first many;
+        compared = rw first;
+        differing = rw first (differing-prefix k (repliesOf p trace) (wholeRecords trace));
+        panel = rw first;
+        answer = answer;
+        next = next;
+        answers-then = rw (first, many);
       }
 
 pub after-each-record : AfterEachRecord

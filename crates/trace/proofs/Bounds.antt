@@ -1,60 +1,51 @@
 -- The place and the counts of any replay are at most the records that a trace can have.
 use Prim.Native.Nat.{ℕ, _/_, _≤_, _%_}
 use native.Mathlib.Omega.{arith}
-use mathlib.Core.Bool.{not, _&&_}
-use mathlib.Core.List.{List, [], _∷_}
+use mathlib.Core.Bool.{not}
+use mathlib.Core.List.{List}
 use lib.Dec.{eqb}
 use lib.ListN.{length}
 use Rattle.sed1520.specs.Chip.{inRange}
 use Rattle.sed1520.specs.ChipRecord.{panelIn}
 use Rattle.sed1520.specs.Panel.{Panel}
-use Rattle.sed1520.specs.declared.bus.Record.{Record}
-use Rattle.sed1520.proofs.Tests.{when}
+use Rattle.basics.proofs.Tests.{when}
 use Rattle.sed1520.specs.Records.{wholeRecords}
-use Rattle.trace.specs.Replay.{Reply, runOf, isCompared, comparedIn, differingIn, Outcome, refusedAt, ended, sizesWrong, replayOf}
+use Rattle.trace.specs.Replay.{ReplayOutcome, refusedAt, traceRun, ended, replaySizesWrong, replayOf}
+use Rattle.trace.specs.Promises.{repliesOf}
 use Rattle.trace.specs.Replay.{InPlace, replayInPlace}
 use Rattle.trace.specs.declared.Ran.{Ran}
-use Rattle.trace.proofs.AfterEach.{replies-bound, records-length}
+use Rattle.trace.proofs.AfterEach.{replies-bound}
 use Rattle.trace.proofs.ReplayCases.{sizes-right}
-use Rattle.trace.proofs.Upto.{at-most-one}
+use Rattle.trace.proofs.Counts.{compared-bound, differing-bound}
 
-pub record Bounded (o : Outcome) : Type 0 where
-  pub place : o .place ≤ 16384
-  pub compared : o .compared ≤ 16384
-  pub differing : o .differing ≤ 16384
+pub record Few (place compared differing : ℕ) : Type 0 where
+  pub place-few : place ≤ 16384
+  pub compared-few : compared ≤ 16384
+  pub differing-few : differing ≤ 16384
 
-compared-bound : (given : List Reply) → comparedIn given ≤ length given
-unfolding comparedIn
-compared-bound [] = omega arith
-compared-bound (a ∷ more) = omega (arith, at-most-one (isCompared (a .kind)), compared-bound more)
-
-differing-bound : (given : List Reply) (rs : List Record) → differingIn given rs ≤ length given
-unfolding differingIn
-differing-bound [] rs = omega arith
-differing-bound (a ∷ more) [] = omega arith
-differing-bound (a ∷ more) (r ∷ rs) =
-    omega (arith, at-most-one (isCompared (a .kind) && not (eqb (a .byte) (r .byte))), differing-bound more rs)
+-- of an outcome
+abbrev Bounded : ReplayOutcome → Type 0
+Bounded o = Few (o .place) (o .compared) (o .differing)
 
 ended-bounded : (p : Panel) (trace answers : List ℕ) → length trace ≤ 65536
-    → Bounded (ended (runOf p (wholeRecords trace)) (wholeRecords trace) answers)
+    → Bounded (ended (traceRun p trace) (wholeRecords trace) answers)
 unfolding ended
 ended-bounded p trace answers h =
-    let given = runOf p (wholeRecords trace) .replies in
-    let n = replies-bound (wholeRecords trace) p in
-    let l = records-length (length trace / 4) trace in
+    let given = repliesOf p trace in
+    let n = replies-bound p trace in
     record {
-      place = omega arith;
-      compared = omega (arith, compared-bound given);
-      differing = omega (arith, differing-bound given (wholeRecords trace));
+      place-few = omega arith;
+      compared-few = omega (arith, compared-bound given);
+      differing-few = omega (arith, differing-bound given (wholeRecords trace));
     }
 
 refused-bounded : (n at : ℕ) (p : Panel) (answers : List ℕ) → at ≤ 16384 → Bounded (refusedAt n at p answers)
-refused-bounded n at p answers h = record { place = h; compared = omega arith; differing = omega arith }
+refused-bounded n at p answers h = record { place-few = h; compared-few = omega arith; differing-few = omega arith }
 
 pub replay-bounded : (p : Panel) (trace answers : List ℕ) → Bounded (replayOf p trace answers)
 unfolding replayOf
 replay-bounded p trace answers =
-    when Bounded (sizesWrong (length trace) (length (p .ram)) (length answers)) (λ _. refused-bounded 1 0 p answers (omega arith))
+    when Bounded (replaySizesWrong (length trace) (length (p .ram)) (length answers)) (λ _. refused-bounded 1 0 p answers (omega arith))
     (λ sizes. let right = sizes-right (length trace) (length (p .ram)) (length answers) sizes in
     when Bounded (not (inRange (p .left))) (λ _. refused-bounded 2 0 p answers (omega arith))
     (λ _. when Bounded (not (inRange (p .right))) (λ _. refused-bounded 2 1 p answers (omega arith))
@@ -62,15 +53,12 @@ replay-bounded p trace answers =
     (λ _. ended-bounded p trace answers (right .short)))))
 
 -- so they are over chip records
-pub record BoundedRan (r : Ran) : Type 0 where
-  pub place : r .place ≤ 16384
-  pub compared : r .compared ≤ 16384
-  pub differing : r .differing ≤ 16384
+abbrev BoundedRan : InPlace Ran → Type 0
+BoundedRan i = Few (i .answer .place) (i .answer .compared) (i .answer .differing)
 
-pub in-place-bounded : (chips ram trace answers : List ℕ) → BoundedRan (replayInPlace chips ram trace answers .answer)
+pub in-place-bounded : (chips ram trace answers : List ℕ) → BoundedRan (replayInPlace chips ram trace answers)
 unfolding replayInPlace
 in-place-bounded chips ram trace answers =
-    let whole = replay-bounded (panelIn chips ram) trace answers in
-    when (λ (i : InPlace). BoundedRan (i .answer)) (not (eqb (length chips) 24))
-    (λ _. record { place = omega arith; compared = omega arith; differing = omega arith })
-    (λ _. record { place = whole .place; compared = whole .compared; differing = whole .differing })
+    when BoundedRan (not (eqb (length chips) 24))
+    (λ _. refused-bounded 1 0 (panelIn chips ram) answers (omega arith))
+    (λ _. replay-bounded (panelIn chips ram) trace answers)

@@ -11,9 +11,10 @@ use Rattle.sed1520.specs.Panel.{Panel, panelOf}
 use Rattle.sed1520.specs.declared.registers.Chip.{Chip}
 use Rattle.sed1520.specs.declared.chip_record.Chips.{Chips}
 use Rattle.sed1520.proofs.RecordsUndo.{passes, two-chips, two-length, two-there, two-back, two-pass}
-use Rattle.sed1520.proofs.Tests.{both, when}
-use Rattle.trace.specs.Replay.{Outcome, refusedAt, sizesWrong, replayOf, InPlace, inPlace, refusal, rewritten, overRecords, replayInPlace}
-use Rattle.trace.proofs.Resumed.{stoppedAt}
+use Rattle.basics.proofs.Tests.{both, when}
+use Rattle.trace.specs.declared.Ran.{Ran}
+use Rattle.trace.specs.Replay.{ReplayOutcome, endedAt, refusedAt, replaySizesWrong, replayOf}
+use Rattle.trace.specs.Replay.{InPlace, inPlace, ranOf, ranNothing, rewritten, overRecords, replayInPlace}
 
 -- the records of the panel that they are, are themselves
 pub kept : (chips ram : List ℕ) → length chips ≡ 24 → rewritten chips (panelIn chips ram) ≡ chips
@@ -23,15 +24,14 @@ kept chips ram h =
     (λ _. refl)
 
 -- records that passed before and after are those of the panel afterwards
-pub over-records-at : {from ram₀ chips ram answers : List ℕ} {n compared differing at : ℕ} {whole : Outcome}
+pub over-records-at : {from ram₀ chips ram answers : List ℕ} {n compared differing at : ℕ} {whole : ReplayOutcome}
     → RecordsFit from ram₀ → RecordsFit chips ram
-    → stoppedAt n compared differing at (panelIn chips ram) answers ≡ whole
-    → inPlace (record { number = n; place = at; compared = compared; differing = differing }) chips ram answers ≡ overRecords from whole
+    → endedAt n at compared differing (panelIn chips ram) answers ≡ whole → inPlace (ranOf n at compared differing) chips ram answers ≡ overRecords from whole
 over-records-at {chips = chips} before after e =
     rw (← e, before .left, before .right, two-back chips (after .records) (after .left) (after .right))
 
 module _ (chips ram trace answers : List ℕ) where
-  pub chips-refused : (length chips ≡ 24 → ⊥) → replayInPlace chips ram trace answers ≡ inPlace (refusal 1 0) chips ram answers
+  pub chips-refused : (length chips ≡ 24 → ⊥) → replayInPlace chips ram trace answers ≡ inPlace (ranNothing 1 0) chips ram answers
   unfolding replayInPlace
   chips-refused h = rw (ne-eqb (length chips) 24 h)
 
@@ -40,11 +40,11 @@ module _ (chips ram trace answers : List ℕ) where
     unfolding replayInPlace
     on-panel = rw (eq-eqb (length chips) 24 records)
 
-    pub as-panel : (o : Outcome) → replayOf (panelIn chips ram) trace answers ≡ o → replayInPlace chips ram trace answers ≡ overRecords chips o
+    pub as-panel : (o : ReplayOutcome) → replayOf (panelIn chips ram) trace answers ≡ o → replayInPlace chips ram trace answers ≡ overRecords chips o
     as-panel o e = on-panel ∙ ap (overRecords chips) e
 
     pub refused-before : (n at : ℕ) → replayOf (panelIn chips ram) trace answers ≡ refusedAt n at (panelIn chips ram) answers
-        → replayInPlace chips ram trace answers ≡ inPlace (refusal n at) chips ram answers
+        → replayInPlace chips ram trace answers ≡ inPlace (ranNothing n at) chips ram answers
     refused-before n at e = as-panel (refusedAt n at (panelIn chips ram) answers) e ∙ rw (kept chips ram records)
 
 -- records whose chips are in range, over the whole image
@@ -56,14 +56,14 @@ records-fit chips ram h left right image =
     record { records = h; left = sym (passes (take 12 chips)) ∙ l; right = sym (passes (drop 12 chips)) ∙ r; image = image }
 
 -- a chip out of range: the panel stays
-abbrev Stays : Panel → Outcome → Type 0
+abbrev Stays : Panel → ReplayOutcome → Type 0
 Stays p o = o .panel ≡ p
 
 out-of-range : (p : Panel) (trace answers : List ℕ) → (inRange (p .left) && inRange (p .right)) ≡ false
     → Stays p (replayOf p trace answers)
 unfolding replayOf
 out-of-range p trace answers out =
-    when (Stays p) (sizesWrong (length trace) (length (p .ram)) (length answers)) (λ _. refl)
+    when (Stays p) (replaySizesWrong (length trace) (length (p .ram)) (length answers)) (λ _. refl)
     (λ _. when (Stays p) (not (inRange (p .left))) (λ _. refl)
     (λ l. when (Stays p) (not (inRange (p .right))) (λ _. refl)
     (λ r. absurd (true≢false (rw (not-false (inRange (p .left)) l, not-false (inRange (p .right)) r) at out)))))
@@ -83,18 +83,11 @@ panel-back left right ram p stays =
     panel-there left right (p .ram) ∙ ap (λ (q : Panel). panelOf left right (q .ram)) same ∙ sym same))
 
 -- what stands after a replay over records, with the chips read back
-abbrev asOutcome : InPlace → Outcome
+abbrev asOutcome : InPlace Ran → ReplayOutcome
 asOutcome i =
-    record {
-      number = i .answer .number;
-      place = i .answer .place;
-      compared = i .answer .compared;
-      differing = i .answer .differing;
-      panel = panelIn (i .chips) (i .ram);
-      answers = i .answers;
-    }
+    endedAt (i .answer .number) (i .answer .place) (i .answer .compared) (i .answer .differing) (panelIn (i .chips) (i .ram)) (i .answers)
 
-pub by-value : (left right : Chip) (chips ram trace answers : List ℕ) (i : InPlace) → chips ≡ chipsBytes left right
+pub by-value : (left right : Chip) (chips ram trace answers : List ℕ) (i : InPlace Ran) → chips ≡ chipsBytes left right
     → i ≡ replayInPlace chips ram trace answers → asOutcome i ≡ replayOf (panelOf left right ram) trace answers
 by-value left right chips ram trace answers i theirs e =
     let whole = replayOf (panelOf left right ram) trace answers in

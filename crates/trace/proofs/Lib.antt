@@ -3,6 +3,6 @@ pub mod Bounds
 pub mod InPlace
 pub mod RefusedBefore
 pub mod ReplayCases
-pub mod Resumed
+pub mod Counts
 pub mod Upto
 pub mod Ends

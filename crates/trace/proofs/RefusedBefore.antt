@@ -7,7 +7,7 @@ use lib.ListN.{length}
 use borrow.Author.Tests.{eqb-true, eqb-false}
 use Rattle.sed1520.specs.ChipRecord.{panelIn}
 use Rattle.sed1520.proofs.RecordsUndo.{left-passes, right-passes}
-use Rattle.sed1520.proofs.Tests.{tested}
+use Rattle.basics.proofs.Tests.{tested}
 use Rattle.trace.specs.Refusals.{EveryRefusalBefore}
 use Rattle.trace.proofs.InPlace.{chips-refused, refused-before}
 use Rattle.trace.proofs.ReplayCases.{size-refused, left-refused, right-refused, length-refused}

@@ -8,9 +8,9 @@ use lib.ListN.{length}
 use borrow.Author.Tests.{le-ltb, ltb-false, eqb-true, eq-eqb, ne-eqb, not-false}
 use Rattle.sed1520.specs.Chip.{inRange}
 use Rattle.sed1520.specs.Panel.{Panel}
-use Rattle.sed1520.proofs.Tests.{neither}
+use Rattle.basics.proofs.Tests.{neither}
 use Rattle.sed1520.specs.Records.{wholeRecords}
-use Rattle.trace.specs.Replay.{refusedAt, runOf, ended, sizesWrong, replayOf}
+use Rattle.trace.specs.Replay.{refusedAt, traceRun, ended, replaySizesWrong, replayOf}
 use Rattle.trace.specs.Promises.{Runs}
 
 pub record Sizes (trace ram answers : ℕ) : Type 0 where
@@ -18,8 +18,8 @@ pub record Sizes (trace ram answers : ℕ) : Type 0 where
   pub image : ram ≡ 640
   pub space : 2 * (trace / 4) ≤ answers
 
-pub sizes-right : (trace ram answers : ℕ) → sizesWrong trace ram answers ≡ false → Sizes trace ram answers
-unfolding sizesWrong
+pub sizes-right : (trace ram answers : ℕ) → replaySizesWrong trace ram answers ≡ false → Sizes trace ram answers
+unfolding replaySizesWrong
 sizes-right trace ram answers e =
     let long = neither (ltb 65536 trace) _ e in
     let rest = neither (not (eqb ram 640)) (ltb answers (2 * (trace / 4))) (long .1) in
@@ -29,18 +29,18 @@ sizes-right trace ram answers e =
       space = ltb-false answers (2 * (trace / 4)) (rest .1);
     }
 
-right-sizes : (trace ram answers : ℕ) → trace ≤ 65536 → ram ≡ 640 → 2 * (trace / 4) ≤ answers → sizesWrong trace ram answers ≡ false
-unfolding sizesWrong
+right-sizes : (trace ram answers : ℕ) → trace ≤ 65536 → ram ≡ 640 → 2 * (trace / 4) ≤ answers → replaySizesWrong trace ram answers ≡ false
+unfolding replaySizesWrong
 right-sizes trace ram answers short image space =
     rw (le-ltb 65536 trace short, eq-eqb ram 640 image, le-ltb answers (2 * (trace / 4)) space)
 
 module _ (p : Panel) (trace answers : List ℕ) where
-  pub size-refused : sizesWrong (length trace) (length (p .ram)) (length answers) ≡ true
+  pub size-refused : replaySizesWrong (length trace) (length (p .ram)) (length answers) ≡ true
       → replayOf p trace answers ≡ refusedAt 1 0 p answers
   unfolding replayOf
   size-refused e = rw e
 
-  module _ (sizes : sizesWrong (length trace) (length (p .ram)) (length answers) ≡ false) where
+  module _ (sizes : replaySizesWrong (length trace) (length (p .ram)) (length answers) ≡ false) where
     pub left-refused : inRange (p .left) ≡ false → replayOf p trace answers ≡ refusedAt 2 0 p answers
     unfolding replayOf
     left-refused l = rw (sizes, l)
@@ -56,12 +56,12 @@ module _ (p : Panel) (trace answers : List ℕ) where
         length-refused h = rw (sizes, left, right, ne-eqb (length trace % 4) 0 h)
 
         pub records-run : length trace % 4 ≡ 0
-            → replayOf p trace answers ≡ ended (runOf p (wholeRecords trace)) (wholeRecords trace) answers
+            → replayOf p trace answers ≡ ended (traceRun p trace) (wholeRecords trace) answers
         unfolding replayOf
         records-run h = rw (sizes, left, right, eq-eqb (length trace % 4) 0 h)
 
   -- none of numbers 1 to 3
-  pub runs : Runs p trace answers → replayOf p trace answers ≡ ended (runOf p (wholeRecords trace)) (wholeRecords trace) answers
+  pub runs : Runs p trace answers → replayOf p trace answers ≡ ended (traceRun p trace) (wholeRecords trace) answers
   runs r =
-      let sizes = right-sizes (length trace) (length (p .ram)) (length answers) (r .size) (r .image) (r .space) in
-      records-run sizes (r .left) (r .right) (r .whole)
+      let sizes = right-sizes (length trace) (length (p .ram)) (length answers) (r .size) (r .panel .image) (r .space) in
+      records-run sizes (r .panel .left) (r .panel .right) (r .whole)

@@ -1,108 +1,98 @@
--- The state of a replay before a record, tied to how the whole ends.
-use Prim.Native.Nat.{ℕ, zero, suc, _+_, _-_, _*_, _/_, _<_, _≤_}
+-- The state of a replay before a record: the run of the records so far, their counts, and their answers in the buffer. An accepted record
+-- carries it on; a refused one, or no record left, ends the replay there.
+use Prim.Native.Nat.{ℕ, suc, _+_, _-_, _*_, _/_, _<_, _≤_}
 use native.Mathlib.Omega.{arith}
+use native.Mathlib.Numerals.{add-one}
 use mathlib.Core.Path.{_≡_, refl, sym, ap, _∙_}
-use mathlib.Core.Bool.{Bool, true, false, not, _&&_}
-use mathlib.Core.List.{List, _∷_}
+use mathlib.Core.Bool.{not, _&&_}
+use mathlib.Core.List.{List, [], _∷_, _++_, flatMap, append-assoc}
 use lib.Dec.{eqb}
-use lib.ListN.{length, take, drop, set, length-set}
-use lib.Seq.{drop-drop}
-use Rattle.sed1520.specs.Choice.{if}
+use lib.ListN.{length, getD, take, drop, set, length-append, length-set}
+use lib.Seq.{take-all, take-suc, split-at}
+use Rattle.basics.specs.Choice.{if}
+use Rattle.basics.specs.Run.{ranTo, runOf}
+use Rattle.basics.proofs.Filling.{Begun, begun-none, begun-byte}
+use Rattle.basics.proofs.Lists.{flat-append}
+use Rattle.basics.proofs.Run.{one-more, refused-next}
 use Rattle.sed1520.specs.ChipRecord.{panelIn, RecordsFit}
-use Rattle.sed1520.specs.Panel.{Panel, outcomeOf, stepped}
+use Rattle.sed1520.specs.Cycle.{Reply}
+use Rattle.sed1520.specs.Panel.{Panel, outcomeOf, panelTurn, panelRun}
+use Rattle.sed1520.specs.Promises.{StepsPanel}
 use Rattle.sed1520.specs.RecordStep.{acted, stepRecords}
-use Rattle.sed1520.specs.Records.{front, recordsIn, wholeRecords}
+use Rattle.sed1520.specs.Records.{wholeRecords}
 use Rattle.sed1520.specs.declared.bus.Record.{Record}
 use Rattle.sed1520.specs.declared.record_step.BareAnswer.{BareAnswer}
 use Rattle.sed1520.proofs.PanelLaws.{refused-record}
-use Rattle.sed1520.proofs.Parts.{rest}
+use Rattle.sed1520.proofs.Records.{recordFrom, front-at, records-length, record-at}
 use Rattle.sed1520.proofs.RecordSteps.{every-record-step}
-use Rattle.trace.specs.Replay.{isCompared, Outcome, runOf, ended}
-use Rattle.trace.proofs.Resumed.{resumed, stoppedAt, begun, no-more, refused-turn, accepted-turn}
+use Rattle.trace.specs.Replay.{isCompared, comparedIn, differingIn, replyBytes, repliesBytes, endedAt, ended, traceRun}
+use Rattle.trace.proofs.Counts.{at-most-one, compared-more, differing-more}
 
--- the records of a trace from a place on
-abbrev leftAt : List ℕ → ℕ → List Record
-leftAt trace at = recordsIn (drop (4 * at) trace) (length trace / 4 - at)
-
-pub record Upto (trace : List ℕ) (space : ℕ) (whole : Outcome) (chips ram answers : List ℕ) (compared differing at : ℕ) : Type 0 where
+pub record Upto (p : Panel) (trace buffer chips ram answers : List ℕ) (compared differing at : ℕ) : Type 0 where
   pub size : length trace ≤ 65536
-  pub enough : 2 * (length trace / 4) ≤ space
+  pub enough : 2 * (length trace / 4) ≤ length buffer
   pub within : at ≤ length trace / 4
   pub fits : RecordsFit chips ram
-  pub buffer : length answers ≡ space
+  pub replies : List Reply
+  pub replied : length replies ≡ at
+  pub run : panelRun p (take at (wholeRecords trace)) ≡ ranTo 0 replies (panelIn chips ram)
+  pub so-compared : compared ≡ comparedIn replies
+  pub so-differing : differing ≡ differingIn replies (wholeRecords trace)
+  pub written : Begun buffer (repliesBytes replies) (2 * at) answers
+  pub buffered : length answers ≡ length buffer
   pub fewer : compared ≤ at
   pub less : differing ≤ at
-  pub ends : resumed compared differing at (panelIn chips ram) (leftAt trace at) answers ≡ whole
-
--- a record given to its chip: the answer that the panel gives, the panel after it, and records that pass again
-record Turned (p : Panel) (bus : Record) (a : BareAnswer) (chips ram : List ℕ) : Type 0 where
-  number : a .number ≡ outcomeOf p bus .answer .number
-  kind : a .kind ≡ outcomeOf p bus .answer .kind
-  byte : a .byte ≡ outcomeOf p bus .answer .byte
-  panel : panelIn chips ram ≡ stepped p bus
-  fit : RecordsFit chips ram
-
--- a record is left: it is the front of the bytes that are left
-next-record : (bytes : List ℕ) (n : ℕ) → 0 < n → recordsIn bytes n ≡ front bytes ∷ recordsIn (drop 4 bytes) (n - 1)
-unfolding recordsIn
-next-record bytes zero h = absurd (omega arith)
-next-record bytes (suc n) h = let e : suc n - 1 ≡ n = omega arith in rw e
-
-left-records : (trace : List ℕ) (at : ℕ) → at < length trace / 4
-    → leftAt trace at ≡ front (drop (4 * at) trace) ∷ leftAt trace (at + 1)
-left-records trace at h =
-    let e1 : length trace / 4 - at - 1 ≡ length trace / 4 - (at + 1) = omega arith in
-    let e2 : 4 * at + 4 ≡ 4 * (at + 1) = omega arith in
-    rw (next-record (drop (4 * at) trace) (length trace / 4 - at) (omega arith), e1, drop-drop 4 (4 * at) trace, e2)
 
 -- before the first record
-pub started : (trace answers chips ram : List ℕ) → RecordsFit chips ram → length trace ≤ 65536 → 2 * (length trace / 4) ≤ length answers
-    → Upto trace (length answers) (ended (runOf (panelIn chips ram) (wholeRecords trace)) (wholeRecords trace) answers)
-    chips ram answers 0 0 0
-started trace answers chips ram fits size enough =
-    let all : length trace / 4 - 0 ≡ length trace / 4 = omega arith in
+pub started : (trace buffer chips ram : List ℕ) → RecordsFit chips ram → length trace ≤ 65536 → 2 * (length trace / 4) ≤ length buffer
+    → Upto (panelIn chips ram) trace buffer chips ram buffer 0 0 0
+unfolding runOf flatMap comparedIn differingIn
+started trace buffer chips ram fits size enough =
     record {
       size = size;
       enough = enough;
       within = omega arith;
       fits = fits;
-      buffer = refl;
+      replies = [];
+      replied = refl;
+      run = refl;
+      so-compared = refl;
+      so-differing = refl;
+      written = begun-none buffer;
+      buffered = refl;
       fewer = omega arith;
       less = omega arith;
-      ends = rw all (begun (panelIn chips ram) (wholeRecords trace) answers);
     }
 
-pub at-most-one : (t : Bool) → if t 1 0 ≤ 1
-at-most-one true = omega arith
-at-most-one false = omega arith
+module _ {p : Panel} {trace buffer chips ram answers : List ℕ} {compared differing at : ℕ}
+    (upto : Upto p trace buffer chips ram answers compared differing at) where
+  abbrev records : List Record
+  records = wholeRecords trace
 
-module _ {trace : List ℕ} {space : ℕ} {whole : Outcome} {chips ram answers : List ℕ} {compared differing at : ℕ}
-    (upto : Upto trace space whole chips ram answers compared differing at) where
-  pub finished : length trace / 4 ≤ at → stoppedAt 0 compared differing at (panelIn chips ram) answers ≡ whole
-  unfolding recordsIn
-  finished h =
-      let e : length trace / 4 - at ≡ 0 = omega arith in
-      sym (no-more compared differing at (panelIn chips ram) answers) ∙ (rw e at (upto .ends))
+  all : length records ≡ length trace / 4
+  all = records-length (length trace / 4) trace
 
-  -- a record is left, read as a part of the trace, and given to its chip
-  module _ (more : at < length trace / 4) {bus : Record} (read : bus ≡ front (take (length trace - 4 * at) (drop (4 * at) trace)))
-      {a : BareAnswer} {chips′ ram′ : List ℕ} (step : acted a chips′ ram′ ≡ stepRecords bus chips ram) where
-    here : bus ≡ front (drop (4 * at) trace)
-    here = read ∙ ap front (rest trace (4 * at))
+  -- the replay ends here
+  ends : (n : ℕ) → traceRun p trace ≡ ranTo n (upto .replies) (panelIn chips ram)
+      → endedAt n at compared differing (panelIn chips ram) answers ≡ ended (traceRun p trace) records buffer
+  unfolding ended
+  ends n e =
+      rw (e, upto .replied) (rw (← upto .so-compared, ← upto .so-differing, ← upto .written .bytes))
 
-    split : resumed compared differing at (panelIn chips ram) (bus ∷ leftAt trace (at + 1)) answers ≡ whole
-    split = rw (here, ← left-records trace at more) (upto .ends)
+  pub finished : length trace / 4 ≤ at → endedAt 0 at compared differing (panelIn chips ram) answers ≡ ended (traceRun p trace) records buffer
+  finished h = ends 0 (rw (take-all at records (omega (arith, all))) at (upto .run))
 
-    on-panel : Turned (panelIn chips ram) bus a chips′ ram′
-    on-panel =
-        let law = every-record-step bus chips ram (upto .fits) in
-        record {
-          number = rw (← step) at (law .number);
-          kind = rw (← step) at (law .kind);
-          byte = rw (← step) at (law .byte);
-          panel = rw (← step) at (law .panel);
-          fit = rw (← step) at (law .fit);
-        }
+  -- a record is left, read from the trace, and given to its chip
+  module _ (more : at < length trace / 4) {a : BareAnswer} {chips′ ram′ : List ℕ}
+      (step : acted a chips′ ram′ ≡ stepRecords (recordFrom trace (4 * at)) chips ram) where
+    abbrev bus : Record
+    bus = recordFrom trace (4 * at)
+
+    here : getD records at bus ≡ bus
+    here = record-at (length trace / 4) at trace bus more ∙ sym (front-at trace (4 * at))
+
+    on-panel : StepsPanel (panelIn chips ram) bus (acted a chips′ ram′)
+    on-panel = rw step (every-record-step bus chips ram (upto .fits))
 
     nonzero : (a .number ≡ 0 → ⊥) → outcomeOf (panelIn chips ram) bus .answer .number ≡ 0 → ⊥
     nonzero h e = h (on-panel .number ∙ e)
@@ -110,26 +100,42 @@ module _ {trace : List ℕ} {space : ℕ} {whole : Outcome} {chips ram answers :
     pub fits-again : RecordsFit chips′ ram′
     fits-again = on-panel .fit
 
-    pub refused-here : (a .number ≡ 0 → ⊥) → stoppedAt (a .number) compared differing at (panelIn chips′ ram′) answers ≡ whole
+    pub refused-here : (a .number ≡ 0 → ⊥)
+        → endedAt (a .number) at compared differing (panelIn chips′ ram′) answers ≡ ended (traceRun p trace) records buffer
     refused-here h =
-        rw (on-panel .number, on-panel .panel, refused-record (panelIn chips ram) bus (nonzero h))
-        (sym (refused-turn compared differing at (panelIn chips ram) answers bus _ (nonzero h)) ∙ split)
+        let next = refused-next panelTurn p (take at records) (upto .run) bus (drop (suc at) records) (nonzero h) in
+        let cut = rw here at (split-at records at bus (omega (arith, all))) in
+        rw (on-panel .panel, refused-record (panelIn chips ram) bus (nonzero h))
+        (ends (a .number) (rw (← cut, ← on-panel .number) at next))
+
+    -- the answer of an accepted record
+    abbrev reply : Reply
+    reply = record { kind = a .kind; byte = a .byte }
 
     pub accepted-here : a .number ≡ 0 → {one other : ℕ} → one ≡ if (isCompared (a .kind)) 1 0
         → other ≡ if (isCompared (a .kind) && not (eqb (a .byte) (bus .byte))) 1 0
-        → Upto trace space whole chips′ ram′ (set (set answers (2 * at) (a .kind)) (2 * at + 1) (a .byte))
-        (compared + one) (differing + other) (at + 1)
+        → Upto p trace buffer chips′ ram′ (set (set answers (2 * at) (a .kind)) (2 * at + 1) (a .byte)) (compared + one) (differing + other) (at + 1)
+    unfolding flatMap
     accepted-here h one-is other-is =
+        let replies = upto .replies in
+        let next = one-more panelTurn p (take at records) (upto .run) bus (sym (on-panel .number) ∙ h) in
+        let records-then = rw here at (take-suc records at bus (omega (arith, all))) in
+        let two : 2 * (at + 1) ≡ 2 * at + 1 + 1 = omega arith in
+        let first = begun-byte (upto .written) (a .kind) (omega (arith, upto .enough)) in
+        let second = begun-byte first (a .byte) (omega (arith, upto .enough)) in
         record {
           size = upto .size;
           enough = upto .enough;
           within = omega arith;
           fits = on-panel .fit;
-          buffer = simp length-set (upto .buffer);
+          replies = replies ++ (reply ∷ []);
+          replied = length-append replies (reply ∷ []) ∙ omega (arith, upto .replied);
+          run = rw (add-one at, records-then, on-panel .panel, on-panel .kind, on-panel .byte) next;
+          so-compared = rw (compared-more replies reply, one-is, upto .so-compared);
+          so-differing =
+              rw (differing-more bus replies records reply (omega (arith, all, upto .replied)), upto .replied, here, other-is, upto .so-differing);
+          written = rw (two, flat-append replyBytes replies (reply ∷ [])) (rw append-assoc at second);
+          buffered = simp length-set (upto .buffered);
           fewer = omega (arith, at-most-one (isCompared (a .kind)));
           less = omega (arith, at-most-one (isCompared (a .kind) && not (eqb (a .byte) (bus .byte))));
-          ends =
-              let accepted = sym (on-panel .number) ∙ h in
-              let turn = accepted-turn compared differing at (panelIn chips ram) answers bus _ accepted (omega (arith, upto .buffer)) in
-              rw (one-is, other-is, on-panel .panel, on-panel .kind, on-panel .byte) (sym turn ∙ split);
         }

@@ -4,11 +4,11 @@ ghost use mathlib.Core.Path.{_≡_};
 ghost use mathlib.Core.Bool.{_&&_, not};
 ghost use lib.Dec.{eqb};
 ghost use lib.ListN.{length};
-ghost use Rattle.sed1520.specs.Choice.{if};
+ghost use Rattle.basics.specs.Choice.{if};
 ghost use Rattle.sed1520.specs.ChipRecord.{panelIn, RecordsFit};
 ghost use Rattle.sed1520.specs.Panel.{panelOf};
-ghost use Rattle.sed1520.specs.Records.{front, wholeRecords};
-ghost use Rattle.trace.specs.Replay.{isCompared, refusal, outcome, runOf, ended, sizesWrong, replayOf};
+ghost use Rattle.sed1520.specs.Records.{wholeRecords};
+ghost use Rattle.trace.specs.Replay.{isCompared, ranNothing, replayOutcome, traceRun, ended, replaySizesWrong, replayOf};
 ghost use Rattle.trace.specs.Replay.{inPlace, overRecords, replayInPlace};
 use sed1520::bus::IMAGE_BYTES;
 use sed1520::bus::Record;
@@ -46,19 +46,6 @@ pub struct Ran {
     pub differing: u64,
 }
 
-// The record in the first four bytes.
-fn record_in(bytes: &[u8]) -> Record
-    requires { ⌜ 4 ≤ length (now bytes) ⌝ }
-    ensures { λ r. ⌜ r ≡ front (now (bytes .entry)) ⌝ }
-{
-    Record {
-        lines: bytes[0],
-        chip: bytes[1],
-        byte: bytes[2],
-        spare: bytes[3],
-    }
-}
-
 // Whether an answer of this kind is compared with the trace, as a count.
 fn compares(kind: u8) -> u64
     ensures { λ r. ⌜ r ≡ if (isCompared kind) 1 0 ⌝ }
@@ -84,7 +71,7 @@ fn run(chips: &mut [u8], ram: &mut [u8], trace: &[u8], answers: &mut [u8]) -> Ra
     requires { ⌜ length (now trace) ≤ 65536 ⌝ }
     ensures { λ r. ⌜ inPlace r (now (chips .exit)) (now (ram .exit)) (now (answers .exit))
         ≡ overRecords (now (chips .entry))
-        (ended (runOf (panelIn (now (chips .entry)) (now (ram .entry))) (wholeRecords (now (trace .entry))))
+        (ended (traceRun (panelIn (now (chips .entry)) (now (ram .entry))) (now (trace .entry)))
         (wholeRecords (now (trace .entry))) (now (answers .entry))) ⌝ }
 {
     let mut compared: u64 = 0;
@@ -92,7 +79,13 @@ fn run(chips: &mut [u8], ram: &mut [u8], trace: &[u8], answers: &mut [u8]) -> Ra
     let mut at = 0;
     let count = trace.len() / RECORD_BYTES;
     while at < count {
-        let bus = record_in(&trace[RECORD_BYTES * at..]);
+        let from = RECORD_BYTES * at;
+        let bus = Record {
+            lines: trace[from],
+            chip: trace[from + 1],
+            byte: trace[from + 2],
+            spare: trace[from + 3],
+        };
         let answer = step_of_tested_records(bus, chips, ram);
         if answer.number != 0 {
             return Ran {
@@ -118,7 +111,7 @@ fn run(chips: &mut [u8], ram: &mut [u8], trace: &[u8], answers: &mut [u8]) -> Ra
 
 // Refused before the first record: nothing is changed and nothing compared.
 fn refused(number: u8, place: u64) -> Ran
-    ensures { λ r. ⌜ r ≡ refusal number place ⌝ }
+    ensures { λ r. ⌜ r ≡ ranNothing number place ⌝ }
 {
     Ran {
         number,
@@ -157,7 +150,7 @@ pub fn replay_in_place(chips: &mut [u8], ram: &mut [u8], trace: &[u8], answers: 
 
 // The replay of a trace on two chips by value and the image of both, as over their records.
 pub fn replay(left: Chip, right: Chip, ram: &mut [u8], trace: &[u8], answers: &mut [u8]) -> Replayed
-    ensures { λ r. ⌜ outcome r (now (ram .exit)) (now (answers .exit))
+    ensures { λ r. ⌜ replayOutcome r (now (ram .exit)) (now (answers .exit))
         ≡ replayOf (panelOf left right (now (ram .entry))) (now (trace .entry)) (now (answers .entry)) ⌝ }
 {
     let mut chips = chips_bytes(left, right);
@@ -177,7 +170,7 @@ pub fn replay(left: Chip, right: Chip, ram: &mut [u8], trace: &[u8], answers: &m
 
 // Number 1: a trace that is too long, an image that is not 640 bytes, or fewer than two answer bytes for each whole record.
 fn sizes_wrong(trace: usize, ram: usize, answers: usize) -> bool
-    ensures { λ r. ⌜ r ≡ sizesWrong trace ram answers ⌝ }
+    ensures { λ r. ⌜ r ≡ replaySizesWrong trace ram answers ⌝ }
 {
     if TRACE_BYTES < trace {
         return true;

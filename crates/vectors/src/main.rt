@@ -3,7 +3,7 @@
 ghost use Prim.Native.Nat.{_≤_};
 ghost use mathlib.Core.Path.{_≡_};
 ghost use lib.ListN.{length};
-ghost use Rattle.vectors.specs.Rows.{recordIn, rowAgrees, agreesOf};
+ghost use Rattle.vectors.specs.Rows.{rowAgrees, agreesOf};
 use sed1520::actions::Answer;
 use sed1520::bus::Record;
 use sed1520::bus::cycle;
@@ -135,18 +135,7 @@ const LISTING: [u8; 63] = *b"\
     \x05\x00\x00\x00\x00\x02\xA5\
     \x04\x00\x00\x00\x00\x03\x60";
 
-fn record_in(row: &[u8]) -> Record
-    requires { ⌜ 7 ≤ length (now row) ⌝ }
-    ensures { λ r. ⌜ r ≡ recordIn (now (row .entry)) ⌝ }
-{
-    Record {
-        lines: row[0],
-        chip: row[1],
-        byte: row[2],
-        spare: row[3],
-    }
-}
-
+// Whether a row says what its record's cycle answered.
 fn row_agrees(row: &[u8], answer: Answer) -> bool
     requires { ⌜ 7 ≤ length (now row) ⌝ }
     ensures { λ r. ⌜ r ≡ rowAgrees (now (row .entry)) answer ⌝ }
@@ -167,16 +156,21 @@ fn agrees(rows: &[u8]) -> bool
     let mut ram = [0u8; 320];
     let mut chip = Chip::fresh();
     let mut at = 0;
-    let mut left = rows.len() / ROW;
-    while 0 < left {
-        let row = &rows[at..];
-        let answer = cycle(record_in(row), chip, &mut ram);
+    let count = rows.len() / ROW;
+    while at < count {
+        let row = &rows[ROW * at..];
+        let bus = Record {
+            lines: row[0],
+            chip: row[1],
+            byte: row[2],
+            spare: row[3],
+        };
+        let answer = cycle(bus, chip, &mut ram);
         if !row_agrees(row, answer) {
             return false;
         }
         chip = answer.chip;
-        at = at + ROW;
-        left = left - 1;
+        at = at + 1;
     }
     true
 }

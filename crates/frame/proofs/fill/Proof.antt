@@ -1,60 +1,56 @@
 -- `frame::fill` meets its contract: the rows so far are the frame's.
 use native.Mathlib.Omega.{arith}
-use Prim.Native.Nat.{_-_}
-use mathlib.Core.Path.{sym, _∙_}
-use lib.ListN.{length-take, length-drop}
-use Rattle.frame.specs.Frame.{frameRow, frameOf}
-use Rattle.frame.proofs.Rows.{Rows, no-rows, row-more, all-rows}
-use Rattle.frame.proofs.Halves.{row-length}
+use Prim.Native.Nat.{_-_, _*_, _≤_}
+use mathlib.Core.Path.{_≡_}
+use lib.ListN.{length, length-take}
+use borrow.Author.Needs.{needs}
+use Rattle.basics.specs.Lists.{joined}
+use Rattle.basics.proofs.Filling.{Begun, begun-none, begun-length, begun-all}
+use Rattle.basics.proofs.Parts.{rest}
+use Rattle.sed1520.specs.Panel.{panelOf}
+use Rattle.sed1520.proofs.WholePanel.{whole-fit}
+use Rattle.frame.specs.Frame.{columns, frameRow, frameOf}
+use Rattle.frame.proofs.Places.{row-begun}
 use Rattle.frame.proofs.fill.Statement.{statement}
 use Rattle.frame.proofs.fill.Tie as tie
 
 abbrev Inv-loop : tie.InvT-loop
-Inv-loop left right ram frame₀ r₀ frame r = Rows (frameRow left right ram) frame r
+Inv-loop left right ram frame₀ r₀ frame r = (r ≤ 4) × Begun frame₀ (joined (frameRow (panelOf left right ram)) 0 r) (columns * r) frame
 
 abbrev μ-loop : tie.MeasureT-loop
 μ-loop left right ram frame₀ r₀ frame r = 4 - r
 
 loop-holds : tie.Need-loop-holds Inv-loop μ-loop
-loop-holds c = no-rows _ _ (c .before .before .pre .1)
+unfolding joined
+loop-holds c = (omega arith, begun-none _)
 
-mul-at : tie.Need-mul-at Inv-loop μ-loop
-mul-at c = omega arith
+same : (c : tie.At-loop Inv-loop μ-loop) → length (c .loop .frame) ≡ length (c .before .before .before .args .frame .now)
+same c = begun-length (c .loop .inv .1) (omega (arith, c .before .before .before .pre .1))
 
-add-end : tie.Need-add-end Inv-loop μ-loop
-add-end c = omega arith
+fill-half-requires-2 : tie.Need-fill-half-requires-2 Inv-loop μ-loop
+fill-half-requires-2 c κs =
+    let start = c .before .before .before .before .before .before .before .before .before .before .before in
+    (rw (rest (start .args .ram .now) 320) (whole-fit _ (start .pre .0) 1), (omega arith, simp length-take (omega arith)))
 
-sub-fill-row : tie.Need-sub-fill-row Inv-loop μ-loop
-sub-fill-row c = omega arith
-
-part-fill-row-start : tie.Need-part-fill-row-start Inv-loop μ-loop
-part-fill-row-start c = omega arith
-
-part-fill-row-end : tie.Need-part-fill-row-end Inv-loop μ-loop
-part-fill-row-end c = omega (arith, c .before .loop .inv .size)
-
-fill-row-requires : tie.Need-fill-row-requires Inv-loop μ-loop
-fill-row-requires c κs =
-    let at = c .before .before .loop in
-    (c .before .before .before .before .before .pre .0, (omega arith, simp (length-take, length-drop) (omega (arith, at .inv .size))))
-
-add-r : tie.Need-add-r Inv-loop μ-loop
-add-r c = omega arith
-
-loop-less : tie.Need-loop-less Inv-loop μ-loop
-loop-less c = omega arith
+part-end : tie.Need-part-fill-half-end-4 Inv-loop μ-loop
+part-end c =
+    let back = c .before .before in
+    omega (arith, back .frame .given .1, same (back .before .before .before .before .before))
 
 loop-again : tie.Need-loop-again Inv-loop μ-loop
 loop-again c =
-    let at = c .before .before .before .before .before .loop in
-    row-more _ _ _ (at .r) (at .inv) (omega arith) (c .before .before .fill-row .ensures) (row-length _ _ _ (at .r))
-
-same-length : tie.Need-same-length Inv-loop μ-loop
-same-length c = c .before .loop .inv .size ∙ sym (c .before .before .before .before .pre .1)
+    let two = c .before .before in
+    let one = two .before .before .before .before .before in
+    let loop = one .before .before .before .before in
+    let room = loop .before .before .before .pre .1 in
+    (omega arith, row-begun _ _ (loop .loop .inv .1) (omega arith) (one .fill-half .ensures) (two .fill-half2 .ensures))
 
 returns : tie.Need-returns Inv-loop μ-loop
 unfolding frameOf
-returns c = all-rows _ _ (c .before .loop .r) (c .before .loop .inv) (omega arith)
+returns c =
+    let at = c .before .loop in
+    let all : at .r ≡ 4 = omega arith in
+    rw all at (begun-all (at .inv .1) (omega (arith, c .before .before .before .before .pre .1)))
 
 pub fill-spec : {M : Type 1} → statement M
 fill-spec =
@@ -63,14 +59,25 @@ fill-spec =
     Inv-loop
     μ-loop
     loop-holds
-    mul-at
-    add-end
-    sub-fill-row
-    part-fill-row-start
-    part-fill-row-end
-    fill-row-requires
-    add-r
-    loop-less
+    (λ c. omega arith)
+    (λ c. omega arith)
+    (λ c. omega arith)
+    (λ c. omega arith)
+    (λ c. search needs)
+    (λ c. omega (arith, same (c .before)))
+    (λ c. omega arith)
+    (λ c. omega arith)
+    (λ c. omega (arith, same (c .before .before)))
+    (λ c κs. search needs)
+    (λ c. search needs)
+    (λ c. search needs)
+    (λ c. search needs)
+    (λ c. search needs)
+    (λ c. search needs)
+    part-end
+    fill-half-requires-2
+    (λ c. omega arith)
+    (λ c. omega arith)
     loop-again
-    same-length
+    (λ c. same (c .before))
     returns)

@@ -1,46 +1,30 @@
 -- `frame::lines_from` meets its contract: two pages as one number, shifted.
-use Prim.Native.Nat.{ℕ, _+_, _/_, _%_}
 use native.Mathlib.Omega.{arith}
-use mathlib.Core.Path.{sym}
-use Rattle.sed1520.specs.Memory.{ramIndex}
-use Rattle.frame.proofs.Packing.{lines-wide}
+use mathlib.Core.Path.{sym, _∙_}
 use borrow.Author.Needs.{needs}
+use Rattle.sed1520.proofs.Cells.{within-ram}
+use Rattle.frame.proofs.Packing.{lines-wide}
 use Rattle.frame.proofs.lines_from.Statement.{statement}
 use Rattle.frame.proofs.lines_from.Tie as tie
 
--- where the two bytes stand
-abbrev upper : ℕ → ℕ → ℕ
-upper line column = ramIndex (line % 32 / 8) column
+upper-read : tie.Need-shared-slice-read-eight-lines
+upper-read c =
+    let start = c .before .before .before .before in
+    rw (c .before .before .index .ensures, start .pre .0) (within-ram _ _ (omega arith) (start .pre .1 .0))
 
-abbrev lower : ℕ → ℕ → ℕ
-lower line column = ramIndex ((line % 32 / 8 + 1) % 4) column
-
-cast-upper : tie.Need-cast-upper
-cast-upper c =
-    let at = c .before .args in
-    omega (arith, c .shared-slice-known .given (upper (at .line) (at .column)))
-
-cast-lower : tie.Need-cast-lower
-cast-lower c =
-    let at = c .before .before .args in
-    omega (arith, c .shared-slice-known2 .given (lower (at .line) (at .column)))
-
-mul-result : tie.Need-mul-result
-mul-result c =
-    let at = c .before .before .args in
-    omega (arith, c .shared-slice-known2 .given (lower (at .line) (at .column)))
-
-add-result : tie.Need-add-result
-add-result c =
-    let at = c .before .before .args in
-    let first = c .before .shared-slice-known .given (upper (at .line) (at .column)) in
-    omega (arith, first, c .shared-slice-known2 .given (lower (at .line) (at .column)))
+lower-read : tie.Need-shared-slice-read-eight-lines-2
+lower-read c =
+    let start = c .before .before .before .before .before in
+    rw (c .before .before .index2 .ensures, start .pre .0) (within-ram _ _ (omega arith) (start .pre .1 .0))
 
 returns : tie.Need-returns
 returns c =
-    let at = c .before .before .args in
-    let byte = c .before .shared-slice-known .given (upper (at .line) (at .column)) in
-    sym (lines-wide (at .ram .now) (at .column) (at .line) (omega arith) (omega (arith, byte)))
+    let second = c .before .before .before in
+    let first = second .before in
+    let at = first .before .before .args in
+    let byte = rw (first .index .ensures) at (first .before .shared-slice-known .given (first .index .result)) in
+    let lines = lines-wide (at .ram .now) (at .column) (at .line) (omega arith) (omega (arith, byte)) in
+    c .eight-lines .ensures ∙ rw (first .index .ensures, second .index2 .ensures) (sym lines)
 
 pub lines-from-spec : {M : Type 1} → statement M
 lines-from-spec =
@@ -48,16 +32,12 @@ lines-from-spec =
     (tie.spec
     (λ c. search needs)
     (λ c. search needs)
-    (λ c. search needs)
-    cast-upper
-    (λ c. search needs)
+    (λ c κs. search needs)
     (λ c. search needs)
     (λ c. search needs)
     (λ c. search needs)
-    cast-lower
-    mul-result
-    add-result
-    (λ c. search needs)
-    (λ c. search needs)
-    (λ c. search needs)
+    (λ c κs. search needs)
+    upper-read
+    lower-read
+    (λ c κs. search needs)
     returns)

@@ -1,16 +1,16 @@
 -- `frame::sizes_wrong` meets its contract.
 use native.Mathlib.Omega.{arith}
 use borrow.Author.Tests.{eq-eqb, ne-eqb}
-use Rattle.frame.specs.Frame.{sizesWrong}
+use Rattle.frame.specs.Frame.{frameSizesWrong}
 use Rattle.frame.proofs.sizes_wrong.Statement.{statement}
 use Rattle.frame.proofs.sizes_wrong.Tie as tie
 
 returns : tie.Need-returns
-unfolding sizesWrong
+unfolding frameSizesWrong
 returns c = rw (ne-eqb (c .before .args .ram) 640 (omega arith))
 
 returns-2 : tie.Need-returns-2
-unfolding sizesWrong
+unfolding frameSizesWrong
 returns-2 c = rw (eq-eqb (c .before .args .ram) 640 (omega arith))
 
 pub sizes-wrong-spec : {M : Type 1} → statement M

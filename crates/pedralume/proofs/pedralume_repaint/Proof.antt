@@ -1,9 +1,9 @@
 -- `pedralume::pedralume_repaint` meets its contract: number 1 by the chip records, then the repaint.
 use native.Mathlib.Omega.{arith}
 use mathlib.Core.Path.{sym, ap}
-use Rattle.repaint.proofs.RepaintCases.{place-small}
-use Rattle.pedralume.specs.Call.{repaintedCall}
-use Rattle.pedralume.proofs.OnChips.{wrong-length, called}
+use Rattle.repaint.proofs.RepaintCases.{places-small}
+use Rattle.pedralume.specs.Call.{packedFilled}
+use Rattle.pedralume.proofs.OnChips.{wrong-length, called, place-fits}
 use borrow.Author.Needs.{needs}
 use Rattle.pedralume.proofs.pedralume_repaint.Statement.{statement}
 use Rattle.pedralume.proofs.pedralume_repaint.Tie as tie
@@ -12,13 +12,13 @@ returns : tie.Need-returns
 returns c = rw (c .pack .ensures) (sym (wrong-length _ _ _ (c .before .if1 .taken)))
 
 pack-requires-2 : tie.Need-pack-requires-2
-pack-requires-2 c κs = (place-small _ _ _ _ (c .before .before .repaint .ensures), (omega arith, omega arith))
+pack-requires-2 c κs = (place-fits _ (c .before .before .repaint .ensures) (places-small _ _ _ _), (omega arith, omega arith))
 
 returns-2 : tie.Need-returns-2
 returns-2 c =
     let done = c .before .before .before in
     let read = done .before .before .before .before in
-    rw (c .pack2 .ensures) (called _ _ _ (omega arith) _ (read .chips-in .ensures) _ (ap repaintedCall (done .repaint .ensures)))
+    rw (c .pack2 .ensures) (called _ _ _ (omega arith) _ (read .chips-in .ensures) _ (ap packedFilled (done .repaint .ensures)))
 
 pub pedralume-repaint-spec : {M : Type 1} → statement M
 pedralume-repaint-spec =

@@ -1,6 +1,6 @@
 -- `pedralume::pedralume_replay` meets its contract: the replay over the records, packed.
 use mathlib.Core.Path.{ap}
-use Rattle.pedralume.specs.Call.{replayedCall}
+use Rattle.pedralume.specs.Call.{packedReplay}
 use Rattle.pedralume.proofs.AnswersUnpack.{packable}
 use borrow.Author.Needs.{needs}
 use Rattle.pedralume.proofs.pedralume_replay.Statement.{statement}
@@ -14,7 +14,7 @@ pack-requires : tie.Need-pack-requires
 pack-requires c κs = packable _ _ _ _ _ (replayed c .replay-in-place .ensures)
 
 returns : tie.Need-returns
-returns c = rw (c .pack .ensures) (ap replayedCall (replayed (c .before) .replay-in-place .ensures))
+returns c = rw (c .pack .ensures) (ap packedReplay (replayed (c .before) .replay-in-place .ensures))
 
 pub pedralume-replay-spec : {M : Type 1} → statement M
 pedralume-replay-spec =

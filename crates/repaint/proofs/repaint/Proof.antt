@@ -2,8 +2,9 @@
 use mathlib.Core.Path.{_≡_, sym, _∙_}
 use mathlib.Core.Bool.{false}
 use lib.ListN.{length}
-use Rattle.repaint.specs.Repaint.{sizesWrong}
-use Rattle.repaint.proofs.RepaintCases.{sizes-right, wrong-size, painted, refused}
+use borrow.Author.Tests.{eq-eqb, ne-eqb}
+use Rattle.repaint.specs.Repaint.{repaintSizesWrong, repaintOf}
+use Rattle.repaint.proofs.RepaintCases.{sizes-right}
 use borrow.Author.Needs.{needs}
 use Rattle.repaint.proofs.repaint.Statement.{statement}
 use Rattle.repaint.proofs.repaint.Tie as tie
@@ -12,40 +13,31 @@ use Rattle.repaint.proofs.repaint.Tie as tie
 abbrev start : tie.Else1 → tie.Start
 start c = c .before .before .before .before
 
-sizes : (c : tie.Else1) → sizesWrong (length (start c .args .picture .now)) (length (start c .args .output .now)) ≡ false
+sizes : (c : tie.Else1) → repaintSizesWrong (length (start c .args .picture .now)) (length (start c .args .output .now)) ≡ false
 sizes c = sym (c .before .sizes-wrong .ensures) ∙ c .if1 .left
 
 returns : tie.Need-returns
-returns c =
-    let test = c .before .before in
-    let at = test .before .before .before .args in
-    let wrong = sym (test .sizes-wrong .ensures) ∙ c .before .if1 .taken in
-    rw (c .new .ensures) (sym (wrong-size (at .left) (at .right) (at .picture .now) (at .output .now) wrong))
+unfolding repaintOf
+returns c = rw (c .new .ensures, sym (c .before .before .sizes-wrong .ensures) ∙ c .before .if1 .taken)
 
 put-records-requires : tie.Need-put-records-requires
-put-records-requires c κs =
-    let sized = c .before .before .before .before in
-    let at = start sized .args in
-    let right = sizes-right (length (at .picture .now)) (length (at .output .now)) (sizes sized) in
-    (right .picture-size, right .buffer-size)
+put-records-requires c κs = sizes-right _ _ (sizes (c .before .before .before .before))
 
 returns-2 : tie.Need-returns-2
+unfolding repaintOf
 returns-2 c =
     let put = c .before .before in
     let ready = put .before .before in
-    let answer = ready .before .before in
-    let at = start (answer .before) .args in
-    let zero = rw (answer .chips-answer .ensures) at (ready .if2 .taken) in
-    rw (put .put-records .ensures, answer .chips-answer .ensures)
-    (sym (painted (at .left) (at .right) (at .picture .now) (at .output .now) (sizes (answer .before)) zero))
+    let told = ready .before .before in
+    let zero = rw (told .chips-verdict .ensures) at (ready .if2 .taken) in
+    rw (put .put-records .ensures, told .chips-verdict .ensures, sizes (told .before), eq-eqb _ 0 zero)
 
 returns-3 : tie.Need-returns-3
+unfolding repaintOf
 returns-3 c =
-    let answer = c .before .before in
-    let at = start (answer .before) .args in
-    let other = rw (answer .chips-answer .ensures) at (c .if2 .left) in
-    rw (answer .chips-answer .ensures)
-    (sym (refused (at .left) (at .right) (at .picture .now) (at .output .now) (sizes (answer .before)) other))
+    let told = c .before .before in
+    let other = rw (told .chips-verdict .ensures) at (c .if2 .left) in
+    rw (told .chips-verdict .ensures, sizes (told .before), ne-eqb _ 0 other)
 
 pub repaint-spec : {M : Type 1} → statement M
 repaint-spec =

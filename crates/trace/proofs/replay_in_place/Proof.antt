@@ -6,7 +6,7 @@ use lib.ListN.{length}
 use borrow.Author.Tests.{not-true, not-false}
 use Rattle.sed1520.specs.Chip.{inRange}
 use Rattle.sed1520.specs.ChipRecord.{chipsIn}
-use Rattle.trace.specs.Replay.{sizesWrong}
+use Rattle.trace.specs.Replay.{replaySizesWrong}
 use Rattle.trace.proofs.InPlace.{chips-refused, as-panel, refused-before, records-fit}
 use Rattle.trace.proofs.ReplayCases.{sizes-right, size-refused, left-refused, right-refused, length-refused, records-run}
 use borrow.Author.Needs.{needs}
@@ -32,7 +32,7 @@ left-passed c = c .before .before .before
 
 -- what each test showed
 sizes : (c : tie.Else2)
-    → let at = second c .args in sizesWrong (length (at .trace .now)) (length (at .ram .now)) (length (at .answers .now)) ≡ false
+    → let at = second c .args in replaySizesWrong (length (at .trace .now)) (length (at .ram .now)) (length (at .answers .now)) ≡ false
 sizes c = sym (c .before .sizes-wrong .ensures) ∙ c .if2 .left
 
 left-in : (c : tie.Else3) → inRange (chipsIn (second (sized (read c)) .args .chips .now) .left) ≡ true

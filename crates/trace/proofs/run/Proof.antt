@@ -1,35 +1,31 @@
--- `trace::run` meets its contract: before each record, the replay resumed there with what is left ends as the whole does.
-use Prim.Native.Nat.{_-_}
+-- `trace::run` meets its contract: before each record, the records so far have run, their counts stand and their answers are written.
+use Prim.Native.Nat.{_+_, _-_, _*_}
 use native.Mathlib.Omega.{arith}
 use mathlib.Core.Bool.{_&&_, not}
 use lib.Dec.{eqb}
-use lib.ListN.{length, length-set}
+use lib.ListN.{getD, length-set}
 use Rattle.sed1520.specs.ChipRecord.{panelIn}
-use Rattle.sed1520.specs.Records.{wholeRecords}
-use Rattle.trace.specs.Replay.{isCompared, runOf, ended}
+use Rattle.trace.specs.Replay.{isCompared}
 use Rattle.trace.proofs.InPlace.{over-records-at}
-use Rattle.trace.proofs.Upto.{Upto, at-most-one, started, finished, fits-again, refused-here, accepted-here}
+use Rattle.trace.proofs.Counts.{at-most-one}
+use Rattle.trace.proofs.Upto.{Upto, started, finished, fits-again, refused-here, accepted-here}
 use borrow.Author.Needs.{needs}
 use Rattle.trace.proofs.run.Statement.{statement}
 use Rattle.trace.proofs.run.Tie as tie
 
 abbrev Inv-loop : tie.InvT-loop
 Inv-loop chips₀ ram₀ trace answers₀ compared₀ differing₀ at₀ count chips ram answers compared differing at =
-    Upto trace (length answers₀) (ended (runOf (panelIn chips₀ ram₀) (wholeRecords trace)) (wholeRecords trace) answers₀)
-    chips ram answers compared differing at
+    Upto (panelIn chips₀ ram₀) trace answers₀ chips ram answers compared differing at
 
 abbrev μ-loop : tie.MeasureT-loop
 μ-loop chips₀ ram₀ trace answers₀ compared₀ differing₀ at₀ count chips ram answers compared differing at = count - at
 
--- the places of a turn: the step, from past it; the record read for it; the loop's head. And the start
+-- the places of a turn: the step, from past it; the loop's head. And the start
 abbrev stepped : tie.After-struct-known Inv-loop μ-loop → tie.After-step-of-tested-records Inv-loop μ-loop
 stepped c = c .before .before .before .before .before
 
-abbrev read : tie.After-step-of-tested-records Inv-loop μ-loop → tie.After-record-in Inv-loop μ-loop
-read c = c .before .before .before
-
 abbrev head : tie.After-step-of-tested-records Inv-loop μ-loop → tie.At-loop Inv-loop μ-loop
-head c = read c .before .before .before
+head c = c .before .before .before .before .before .before .before .before
 
 abbrev start : tie.At-loop Inv-loop μ-loop → tie.Start Inv-loop μ-loop
 start c = c .before .before .before .before .before
@@ -46,27 +42,26 @@ returns c =
     let given = step .step-of-tested-records .ensures in
     over-records-at
     (start (head step) .pre .0)
-    (fits-again state (omega arith) (read step .record-in .ensures) given)
-    (refused-here state (omega arith) (read step .record-in .ensures) given (c .if1 .taken))
+    (fits-again state (omega arith) given)
+    (refused-here state (omega arith) given (c .if1 .taken))
 
 slice-write-answers-2 : tie.Need-slice-write-answers-2 Inv-loop μ-loop
 slice-write-answers-2 c = simp length-set (omega arith)
 
 add-compared : tie.Need-add-compared Inv-loop μ-loop
-add-compared c =
-    let answer = stepped (c .before .before) .step-of-tested-records .result in
-    omega (arith, at-most-one (isCompared (answer .kind)))
+add-compared c = omega (arith, at-most-one (isCompared (stepped (c .before .before) .step-of-tested-records .result .kind)))
 
 add-differing : tie.Need-add-differing Inv-loop μ-loop
 add-differing c =
     let step = stepped (c .before .before .before) in
     let answer = step .step-of-tested-records .result in
-    omega (arith, at-most-one (isCompared (answer .kind) && not (eqb (answer .byte) (read step .record-in .result .byte))))
+    let recorded = getD (start (head step) .args .trace .now) (4 * head step .loop .at + 2) 0 in
+    omega (arith, at-most-one (isCompared (answer .kind) && not (eqb (answer .byte) recorded)))
 
 loop-again : tie.Need-loop-again Inv-loop μ-loop
 loop-again c =
     let step = stepped (c .before .before .before) in
-    accepted-here (head step .loop .inv) (omega arith) (read step .record-in .ensures) (step .step-of-tested-records .ensures)
+    accepted-here (head step .loop .inv) (omega arith) (step .step-of-tested-records .ensures)
     (omega arith) (c .before .compares .ensures) (c .differs .ensures)
 
 returns-2 : tie.Need-returns-2 Inv-loop μ-loop
@@ -85,7 +80,10 @@ run-spec =
     (λ c. search needs)
     (λ c. search needs)
     (λ c. search needs)
-    (λ c κs. search needs)
+    (λ c. search needs)
+    (λ c. search needs)
+    (λ c. search needs)
+    (λ c. search needs)
     (λ c κs. search needs)
     (λ c. search needs)
     (λ c. search needs)

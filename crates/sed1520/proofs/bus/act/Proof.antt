@@ -6,18 +6,6 @@ use borrow.Author.Needs.{needs}
 use Rattle.sed1520.proofs.bus.act.Statement.{statement}
 use Rattle.sed1520.proofs.bus.act.Tie as tie
 
-returns : tie.Need-returns
-returns c = rw (c .before .before .data-write .ensures) (sym (action-data-write _ _ _ _ (omega arith)))
-
-returns-2 : tie.Need-returns-2
-returns-2 c = rw (c .status .ensures) (sym (action-status _ _ _ _ (omega arith)))
-
-returns-3 : tie.Need-returns-3
-returns-3 c = rw (c .data-read .ensures) (sym (action-data-read _ _ _ _ (omega arith)))
-
-returns-4 : tie.Need-returns-4
-returns-4 c = rw (c .command .ensures) (sym (action-command _ _ _ _ (omega arith)))
-
 pub act-spec : {M : Type 1} → statement M
 act-spec =
     tie.close
@@ -27,8 +15,8 @@ act-spec =
     (λ c κs. search needs)
     (λ c κs. search needs)
     (λ c. search needs)
-    returns
-    returns-2
+    (λ c. rw (c .before .before .data-write .ensures) (sym (action-data-write _ _ _ _ (omega arith))))
+    (λ c. rw (c .status .ensures) (sym (action-status _ _ _ _ (omega arith))))
     (λ c. search needs)
-    returns-3
-    returns-4)
+    (λ c. rw (c .data-read .ensures) (sym (action-data-read _ _ _ _ (omega arith))))
+    (λ c. rw (c .command .ensures) (sym (action-command _ _ _ _ (omega arith)))))

@@ -13,15 +13,11 @@ use Rattle.sed1520.proofs.chip_record.chip_out.Tie as tie
 returns : tie.Need-returns
 unfolding chipBytes
 returns c =
-    let marked = c .before in
-    let flags = marked .before in
-    let static = flags .before .before in
-    let at = static .before .before .before .before .args in
+    let at = c .before .before .before .before .before .before .before .before .args in
     let none = drop-of-length-le (at .bytes .now) {i = 12} (omega arith) in
     let written = sets-eq (chipBytes (at .chip)) (at .bytes .now) 0 (omega arith) in
-    rw (c .byte .ensures, marked .mark .ensures, flags .bit5 .ensures, flags .before .bit4 .ensures)
-    (rw (static .bit3 .ensures, static .before .bit2 .ensures, static .before .before .bit .ensures)
-    (written ∙ ap (λ (more : List ℕ). chipBytes (at .chip) ++ more) none ∙ append-nil (chipBytes (at .chip))))
+    let bytes = written ∙ ap (λ (more : List ℕ). chipBytes (at .chip) ++ more) none ∙ append-nil (chipBytes (at .chip)) in
+    cc
 
 pub chip-out-spec : {M : Type 1} → statement M
 chip-out-spec =
@@ -46,5 +42,5 @@ chip-out-spec =
     (λ c κs. search needs)
     (λ c. simp length-set (omega arith))
     (λ c. simp length-set (omega arith))
-    (λ c. search needs)
+    (λ c. simp length-set)
     returns)

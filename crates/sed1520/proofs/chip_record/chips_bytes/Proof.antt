@@ -3,7 +3,7 @@ use native.Mathlib.Omega.{arith}
 use mathlib.Core.Path.{refl, ap, _∙_}
 use lib.ListN.{length, length-append}
 use Rattle.sed1520.proofs.RecordsUndo.{record-length}
-use Rattle.sed1520.proofs.TwoParts.{both-written}
+use Rattle.basics.proofs.Halves.{both-written}
 use borrow.Author.Needs.{needs}
 use Rattle.sed1520.proofs.chip_record.chips_bytes.Statement.{statement}
 use Rattle.sed1520.proofs.chip_record.chips_bytes.Tie as tie

@@ -7,7 +7,7 @@ use lib.ListN.{length, take}
 use lib.Seq.{length-take-le}
 use borrow.Author.Tests.{eq-eqb, ne-eqb}
 use Rattle.sed1520.specs.ChipRecord.{chipsIn}
-use Rattle.sed1520.proofs.Parts.{rest}
+use Rattle.basics.proofs.Parts.{rest}
 use borrow.Author.Needs.{needs}
 use Rattle.sed1520.proofs.chip_record.chips_in.Statement.{statement}
 use Rattle.sed1520.proofs.chip_record.chips_in.Tie as tie

@@ -4,11 +4,9 @@ use borrow.Author.Tests.{eq-eqb, ne-eqb}
 use Rattle.sed1520.proofs.chip_record.latch_of.Statement.{statement}
 use Rattle.sed1520.proofs.chip_record.latch_of.Tie as tie
 
-returns : tie.Need-returns
-returns c = rw (eq-eqb (c .before .args .mark) 1 (omega arith))
-
-returns-2 : tie.Need-returns-2
-returns-2 c = rw (ne-eqb (c .before .args .mark) 1 (c .if1 .left))
-
 pub latch-of-spec : {M : Type 1} → statement M
-latch-of-spec = tie.close (tie.spec returns returns-2)
+latch-of-spec =
+    tie.close
+    (tie.spec
+    (λ c. rw (eq-eqb (c .before .args .mark) 1 (omega arith)))
+    (λ c. rw (ne-eqb (c .before .args .mark) 1 (c .if1 .left))))

@@ -3,12 +3,9 @@ use borrow.Author.Needs.{needs}
 use Rattle.sed1520.proofs.chip_record.no_chip.Statement.{statement}
 use Rattle.sed1520.proofs.chip_record.no_chip.Tie as tie
 
-returns : tie.Need-returns
-returns c = rw (c .fresh .ensures)
-
 pub no-chip-spec : {M : Type 1} → statement M
 no-chip-spec =
     tie.close
     (tie.spec
     (λ c κs. search needs)
-    returns)
+    (λ c. rw (c .fresh .ensures)))

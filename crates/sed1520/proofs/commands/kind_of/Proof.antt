@@ -8,7 +8,7 @@ use lib.Dec.{ltb}
 use borrow.Author.Tests.{ltb-true, ltb-false}
 use Rattle.sed1520.specs.Command.{kinds, among}
 use Rattle.sed1520.specs.declared.commands.Kind.the-variants.{Display, StartLine, Page, Column, Adc, Static, Duty, Modify, End, Reset}
-use Rattle.sed1520.proofs.Tests.{tested}
+use Rattle.basics.proofs.Tests.{tested}
 use Rattle.sed1520.proofs.CommandBytes.{kind-in-range, none-between}
 use Rattle.sed1520.proofs.commands.kind_of.Statement.{statement}
 use Rattle.sed1520.proofs.commands.kind_of.Tie as tie

@@ -3,7 +3,7 @@ use Prim.Native.Nat.{_≤_}
 use native.Mathlib.Omega.{arith}
 use mathlib.Core.Path.{sym, _∙_}
 use Rattle.sed1520.proofs.RecordStepCases.{chips-wrong, image-wrong, bus-wrong, on-parts}
-use Rattle.sed1520.proofs.TwoParts.{start-within}
+use Rattle.basics.proofs.Halves.{start-within}
 use borrow.Author.Needs.{needs}
 use Rattle.sed1520.proofs.record_step.step_of_tested_records.Statement.{statement}
 use Rattle.sed1520.proofs.record_step.step_of_tested_records.Tie as tie

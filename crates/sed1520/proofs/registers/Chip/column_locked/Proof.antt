@@ -5,11 +5,9 @@ use Rattle.sed1520.proofs.ActionCases.{locked-below, unlocked-above}
 use Rattle.sed1520.proofs.registers.Chip.column_locked.Statement.{statement}
 use Rattle.sed1520.proofs.registers.Chip.column_locked.Tie as tie
 
-returns : tie.Need-returns
-returns c = let at = c .before .args in sym (locked-below (at .byte) (at .self) (omega arith))
-
-returns-2 : tie.Need-returns-2
-returns-2 c = let at = c .before .args in sym (unlocked-above (at .byte) (at .self) (omega arith))
-
 pub column-locked-spec : {M : Type 1} → statement M
-column-locked-spec = tie.close (tie.spec returns returns-2)
+column-locked-spec =
+    tie.close
+    (tie.spec
+    (λ c. sym (locked-below (c .before .args .byte) (c .before .args .self) (omega arith)))
+    (λ c. sym (unlocked-above (c .before .args .byte) (c .before .args .self) (omega arith))))

@@ -4,10 +4,7 @@ use Rattle.sed1520.specs.Cycle.{dataRead}
 use Rattle.sed1520.proofs.registers.Chip.data_read.Statement.{statement}
 use Rattle.sed1520.proofs.registers.Chip.data_read.Tie as tie
 
-returns : tie.Need-returns
-unfolding dataRead
-returns c = rw (c .done .ensures, c .before .byte .ensures, c .before .before .kind .ensures, c .before .before .before .after-read .ensures)
-
 pub data-read-spec : {M : Type 1} → statement M
+unfolding dataRead
 data-read-spec =
-    tie.close (tie.spec (λ c κs. search needs) (λ c κs. search needs) (λ c κs. search needs) (λ c κs. search needs) returns)
+    tie.close (tie.spec (λ c κs. search needs) (λ c κs. search needs) (λ c κs. search needs) (λ c κs. search needs) (λ c. cc))

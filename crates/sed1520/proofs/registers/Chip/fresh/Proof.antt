@@ -4,9 +4,6 @@ use Rattle.sed1520.specs.Chip.{fresh}
 use Rattle.sed1520.proofs.registers.Chip.fresh.Statement.{statement}
 use Rattle.sed1520.proofs.registers.Chip.fresh.Tie as tie
 
-returns : tie.Need-returns
-unfolding fresh
-returns c = refl
-
 pub fresh-spec : {M : Type 1} → statement M
-fresh-spec = tie.close (tie.spec returns)
+unfolding fresh
+fresh-spec = tie.close (tie.spec (λ c. refl))

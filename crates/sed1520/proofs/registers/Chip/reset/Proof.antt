@@ -4,9 +4,6 @@ use Rattle.sed1520.specs.Cycle.{execute}
 use Rattle.sed1520.proofs.registers.Chip.reset.Statement.{statement}
 use Rattle.sed1520.proofs.registers.Chip.reset.Tie as tie
 
-returns : tie.Need-returns
-unfolding execute
-returns c = c .staled .ensures
-
 pub reset-spec : {M : Type 1} → statement M
-reset-spec = tie.close (tie.spec (λ c κs. search needs) returns)
+unfolding execute
+reset-spec = tie.close (tie.spec (λ c κs. search needs) (λ c. c .staled .ensures))

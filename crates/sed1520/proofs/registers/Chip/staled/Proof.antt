@@ -3,8 +3,5 @@ use borrow.Author.Needs.{needs}
 use Rattle.sed1520.proofs.registers.Chip.staled.Statement.{statement}
 use Rattle.sed1520.proofs.registers.Chip.staled.Tie as tie
 
-returns : tie.Need-returns
-returns c = rw (c .with-latch .ensures, c .before .made-stale .ensures)
-
 pub staled-spec : {M : Type 1} → statement M
-staled-spec = tie.close (tie.spec (λ c κs. search needs) (λ c κs. search needs) returns)
+staled-spec = tie.close (tie.spec (λ c κs. search needs) (λ c κs. search needs) (λ c. cc))

@@ -3,8 +3,5 @@ use borrow.Author.Needs.{needs}
 use Rattle.sed1520.proofs.registers.Chip.status.Statement.{statement}
 use Rattle.sed1520.proofs.registers.Chip.status.Tie as tie
 
-returns : tie.Need-returns
-returns c = rw (c .done .ensures, c .before .status-byte .ensures)
-
 pub status-spec : {M : Type 1} → statement M
-status-spec = tie.close (tie.spec (λ c κs. search needs) (λ c κs. search needs) returns)
+status-spec = tie.close (tie.spec (λ c κs. search needs) (λ c κs. search needs) (λ c. cc))

@@ -1,0 +1,18 @@
+-- Two parts of n bytes, one after the other: part 0 at the front, any other at the rear.
+use Prim.Native.Nat.{ℕ}
+use mathlib.Core.List.{List, _++_}
+use lib.Dec.{eqb}
+use lib.ListN.{take, drop}
+use Rattle.basics.specs.Choice.{if}
+
+-- where part k begins
+abbrev pub startOf : ℕ → ℕ → ℕ
+startOf n k = if (eqb k 0) 0 n
+
+-- part k
+abbrev pub partAt : ℕ → ℕ → List ℕ → List ℕ
+partAt n k bytes = if (eqb k 0) (take n bytes) (drop n bytes)
+
+-- part k replaced, the other as it was
+abbrev pub partPut : ℕ → ℕ → List ℕ → List ℕ → List ℕ
+partPut n k bytes part = if (eqb k 0) (part ++ drop n bytes) (take n bytes ++ part)

@@ -1,0 +1,4 @@
+pub mod Choice
+pub mod Halves
+pub mod Lists
+pub mod Run

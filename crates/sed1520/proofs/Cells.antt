@@ -1,0 +1,27 @@
+-- The byte of a page and a column: it lies within the RAM, those of two pages or columns lie apart, and what is read after a write.
+use Prim.Native.Nat.{ℕ, _<_}
+use native.Mathlib.Omega.{arith}
+use mathlib.Core.Path.{_≡_}
+use mathlib.Core.List.{List}
+use lib.ListN.{length}
+use lib.Seq.{getD-set-same, getD-set-other}
+use Rattle.sed1520.specs.Memory.{ramIndex, byteAt, byteSet}
+
+pub within-ram : (page column : ℕ) → page < 4 → column < 80 → ramIndex page column < 320
+unfolding ramIndex
+within-ram page column h l = omega arith
+
+pub same-cell : (page column page′ column′ : ℕ) → column < 80 → column′ < 80 → ramIndex page column ≡ ramIndex page′ column′
+    → (page ≡ page′) × (column ≡ column′)
+unfolding ramIndex
+same-cell page column page′ column′ h l e = (omega arith, omega arith)
+
+module _ (ram : List ℕ) (page column b : ℕ) (near : column < 80) where
+  pub read-written : length ram ≡ 320 → page < 4 → byteAt (byteSet ram page column b) page column ≡ b
+  read-written size h = getD-set-same ram (ramIndex page column) b 0 (let below = within-ram page column h near in omega arith)
+
+  pub read-other : (page′ column′ : ℕ) → column′ < 80 → (page′ ≡ page → column′ ≡ column → ⊥)
+      → byteAt (byteSet ram page column b) page′ column′ ≡ byteAt ram page′ column′
+  read-other page′ column′ l apart =
+      getD-set-other ram (ramIndex page column) (ramIndex page′ column′) b 0
+      (λ e. let same = same-cell page′ column′ page column l near e in apart (same .0) (same .1))
