@@ -74,7 +74,8 @@ module _ {A : Type 0} (read : List ℕ → A) (size : ℕ) where
     pieces-back back [] rest (suc k) h = absurd (omega arith)
     pieces-back back (x ∷ xs) rest (suc k) h =
         let more = flatMap write xs ++ rest in
-        rw (append-assoc (write x) (flatMap write xs) rest, back x more, drop-at (write x) more size (wide x), pieces-back back xs rest k (omega arith))
+        rw (append-assoc (write x) (flatMap write xs) rest, back x more, drop-at (write x) more size (wide x))
+        (rw (pieces-back back xs rest k (omega arith)))
 
     pub pieces-there : ((bytes : List ℕ) → size ≤ length bytes → write (read bytes) ≡ take size bytes) → (n : ℕ) (bytes : List ℕ)
         → size * n ≤ length bytes → flatMap write (pieces read size bytes n) ≡ take (size * n) bytes

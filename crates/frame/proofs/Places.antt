@@ -87,7 +87,8 @@ module _ (p : Panel) where
       joined-at (frameRow p) columns (row-length p) 0 4 r (startOf segments chip + n) 0 l (omega arith) ∙ rw e (row-at p r chip n h)
 
 -- a row more in a buffer: its left half filled, then its right one
-pub row-begun : (p : Panel) (r : ℕ) {old now one two : List ℕ} → Begun old (joined (frameRow p) 0 r) (columns * r) now → columns * (r + 1) ≤ length old
+pub row-begun : (p : Panel) (r : ℕ) {old now one two : List ℕ} → Begun old (joined (frameRow p) 0 r) (columns * r) now
+    → columns * (r + 1) ≤ length old
     → let middle = columns * r + segments in let end = middle + segments in
     one ≡ halfRow (length (take (middle - columns * r) (drop (columns * r) now))) (p .left) (ramAt p 0) r
     → let half = take (columns * r) now ++ (one ++ drop (middle - columns * r) (drop (columns * r) now)) in

@@ -1,5 +1,5 @@
--- The laws of the frame: document 01's sentence on its pixels, for which sizes and chips it is given, and those by which the layers above know it: about one half, that
--- is one chip over its 320 bytes and the 61 columns of the panel that it drives, and about where a byte stands.
+-- The laws of the frame: document 01's sentence on its pixels, for which sizes and chips it is given, and those by which the layers above know
+-- it: about one half, that is one chip over its 320 bytes and the 61 columns of the panel that it drives, and about where a byte stands.
 use Prim.Native.Nat.{ℕ, _+_, _*_, _/_, _%_, _^_, _<_, _≤_}
 use mathlib.Core.Path.{_≡_}
 use mathlib.Core.Bool.{Bool, true, false, not, _&&_}

@@ -15,7 +15,12 @@ unpacks n at compared differing h l m =
     record { number-of = omega arith; place-of = omega arith; compared-of = omega arith; differing-of = omega arith }
 
 small : {at compared differing : ℕ} → Few at compared differing → Small at compared differing
-small few = record { place-small = omega (arith, few .place-few); compared-small = omega (arith, few .compared-few); differing-small = omega (arith, few .differing-few) }
+small few =
+    record {
+      place-small = omega (arith, few .place-few);
+      compared-small = omega (arith, few .compared-few);
+      differing-small = omega (arith, few .differing-few);
+    }
 
 pub packable : (chips ram trace answers : List ℕ) (i : InPlace Ran) → i ≡ replayInPlace chips ram trace answers
     → (i .answer .place < 65536) × ((i .answer .compared < 65536) × (i .answer .differing < 65536))

@@ -28,7 +28,8 @@ module _ (left right : Chip) (picture buffer : List ℕ) (at : LeftReverse left 
   turns =
       let pages = pagesOf left right picture in
       rw (bytes-append pages (turnsOf left right), append-assoc)
-      (drop-at (recordsBytes pages) (recordsBytes (turnsOf left right) ++ drop 1016 buffer) 1008 (bytes-length pages ∙ rw (pages-length left right picture)))
+      (drop-at (recordsBytes pages) (recordsBytes (turnsOf left right) ++ drop 1016 buffer) 1008
+      (bytes-length pages ∙ rw (pages-length left right picture)))
 
   ends : take 8 (drop 1008 (repaintOf left right picture buffer .buffer)) ≡ 0x02 ∷ 0x00 ∷ 0xD0 ∷ 0x00 ∷ 0x02 ∷ 0x01 ∷ 0xD0 ∷ 0x00 ∷ []
   unfolding flatMap

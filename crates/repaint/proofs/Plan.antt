@@ -1,5 +1,5 @@
--- A plan of any length: records that leave both halves as they were and the picture in the hidden pages, then the two turns. Whatever its length n, the
--- first n - 2 records show the panel as it was, the next one the left half of the picture, and the last one the whole.
+-- A plan of any length: records that leave both halves as they were and the picture in the hidden pages, then the two turns. Whatever its length
+-- n, the first n - 2 records show the panel as it was, the next one the left half of the picture, and the last one the whole.
 use Prim.Native.Nat.{ℕ, zero, suc, _+_, _<_, _≤_}
 use native.Mathlib.Omega.{arith}
 use mathlib.Core.Path.{_≡_, refl, sym, _∙_}
@@ -28,7 +28,7 @@ pub record Repaints (p : Panel) (picture : List ℕ) (n : ℕ) (records : List R
   pub many : length records ≡ n + 2
   pub ready : Stops panelTurn BothReady p records
   pub before : (k : ℕ) → k ≤ n → frameOf (after p (take k records)) ≡ frameOf p
-  pub turned : SameHalf 0 (frameOf (after p (take (n + 1) records))) (wanted picture) × SameHalf 1 (frameOf (after p (take (n + 1) records))) (frameOf p)
+  pub turned : let t = after p (take (n + 1) records) in SameHalf 0 (frameOf t) (wanted picture) × SameHalf 1 (frameOf t) (frameOf p)
   pub whole : frameOf (after p (take (n + 2) records)) ≡ wanted picture
 
 wanted-length : (picture : List ℕ) → length picture ≡ pictureBytes → length (wanted picture) ≡ frameBytes
@@ -53,7 +53,8 @@ module _
 
   left-turn : TurnDone (p .left) 0 picture written half-way
   left-turn =
-      turn-done (p .left) (ready .left) 0 (omega arith) picture written (quiet .whole) (ramAt p 0) (quiet .still 0) (λ r h. plan .held 0 r (omega arith) h)
+      turn-done (p .left) (ready .left) 0 (omega arith) picture written (quiet .whole) (ramAt p 0) (quiet .still 0)
+      (λ r h. plan .held 0 r (omega arith) h)
 
   right-chip : chipAt half-way 1 ≡ chipAt written 1
   right-chip = left-turn .other-chip 1 false≢true

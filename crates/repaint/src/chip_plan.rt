@@ -68,7 +68,8 @@ fn put_writes(chip: Chip, which: u8, picture: &[u8], row: u8, output: &mut [u8])
     requires { ⌜ length (now picture) ≡ pictureBytes ⌝ }
     requires { ⌜ row < 2 ⌝ }
     requires { ⌜ 244 ≤ length (now output) ⌝ }
-    ensures { λ _. ⌜ now (output .exit) ≡ recordsBytes (tabulated (writeOf chip which (now (picture .entry)) row) 0 segments) ++ drop 244 (now (output .entry)) ⌝ }
+    ensures { λ _. ⌜ now (output .exit)
+        ≡ recordsBytes (tabulated (writeOf chip which (now (picture .entry)) row) 0 segments) ++ drop 244 (now (output .entry)) ⌝ }
 {
     let mut j = 0;
     while j < Chip::SEGMENTS {

@@ -26,7 +26,8 @@ kept chips ram h =
 -- records that passed before and after are those of the panel afterwards
 pub over-records-at : {from ram₀ chips ram answers : List ℕ} {n compared differing at : ℕ} {whole : ReplayOutcome}
     → RecordsFit from ram₀ → RecordsFit chips ram
-    → endedAt n at compared differing (panelIn chips ram) answers ≡ whole → inPlace (ranOf n at compared differing) chips ram answers ≡ overRecords from whole
+    → endedAt n at compared differing (panelIn chips ram) answers ≡ whole
+    → inPlace (ranOf n at compared differing) chips ram answers ≡ overRecords from whole
 over-records-at {chips = chips} before after e =
     rw (← e, before .left, before .right, two-back chips (after .records) (after .left) (after .right))
 

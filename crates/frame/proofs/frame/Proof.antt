@@ -42,7 +42,8 @@ unfolding framed
 returns-2 c =
     let filled = c .before .before in
     let done = filled .before .before .before .before in
-    rw (filled .fill .ensures, told done, sizes (done .before .before .before .before), eq-eqb _ 0 (rw (told done) at (filled .before .before .if2 .taken)))
+    let zero = rw (told done) at (filled .before .before .if2 .taken) in
+    rw (filled .fill .ensures, told done, sizes (done .before .before .before .before), eq-eqb _ 0 zero)
 
 returns-3 : tie.Need-returns-3
 unfolding framed
