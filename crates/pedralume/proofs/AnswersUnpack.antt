@@ -14,7 +14,7 @@ unpacks : (n at compared differing : ℕ) → n < 256 → at < 65536 → compare
 unpacks n at compared differing h l m =
     record { number-of = omega arith; place-of = omega arith; compared-of = omega arith; differing-of = omega arith }
 
-small : {at compared differing : ℕ} → Few at compared differing → Small at compared differing
+small : {at compared differing : ℕ} → Few 16384 at compared differing → Small at compared differing
 small few =
     record {
       place-small = omega (arith, few .place-few);

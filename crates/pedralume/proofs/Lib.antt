@@ -2,3 +2,12 @@ pub mod AnswersUnpack
 pub mod OnChips
 pub mod CallsRefuse
 pub mod Shown
+pub mod BytesPut
+pub mod FeedPlaces
+pub mod FeedCallCases
+pub mod FeedRefuses
+pub mod FeedBack
+pub mod FeedUndo
+pub mod BytesFit
+pub mod FeedFits
+pub mod FeedFollows

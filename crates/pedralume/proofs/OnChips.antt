@@ -9,7 +9,7 @@ use Rattle.sed1520.specs.Verdict.{Filled, filled}
 use Rattle.sed1520.specs.declared.verdict.Verdict.{Verdict}
 use Rattle.sed1520.specs.declared.chip_record.Chips.{Chips}
 use Rattle.sed1520.specs.declared.registers.Chip.{Chip}
-use Rattle.pedralume.specs.Call.{packedWith, onChips, packedFilled}
+use Rattle.pedralume.specs.Call.{packedWith, onChips}
 
 module _ (chips buffer : List ℕ) (call : Chip → Chip → Filled ℕ) where
   pub wrong-length : (length chips ≡ 24 → ⊥) → onChips chips buffer call ≡ packedWith buffer 1 0

@@ -1,4 +1,4 @@
--- The calls of the C side: what each gives back, and what it leaves in every buffer that it was lent.
+-- The calls of the C side but the feed's (FeedCall.antt): what each gives back, and what it leaves in every buffer that it was lent.
 use Prim.Native.Nat.{ℕ, _+_, _*_, _^_}
 use mathlib.Core.Bool.{not}
 use mathlib.Core.List.{List}
@@ -15,7 +15,7 @@ use Rattle.trace.specs.declared.Ran.{Ran}
 use Rattle.frame.specs.Frame.{framed}
 use Rattle.repaint.specs.Repaint.{repaintOf}
 
--- the 64-bit number that a call gives back: number, place, compared and differing, each in bits of its own
+-- the 64-bit number that replay, frame and repaint give back: number, place, compared and differing, each in bits of its own
 abbrev pub packed : ℕ → ℕ → ℕ → ℕ → ℕ
 packed number place compared differing = number + 256 * place + 2 ^ 24 * compared + 2 ^ 40 * differing
 

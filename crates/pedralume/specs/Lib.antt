@@ -2,3 +2,6 @@ pub mod Call
 pub mod Promises
 pub mod Refusals
 pub mod Shown
+pub mod FeedRecord
+pub mod FeedCall
+pub mod FeedPromises

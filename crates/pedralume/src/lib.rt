@@ -1,4 +1,7 @@
-// The calls of the C side, on byte slices and one 64-bit number. The header is host/include/pedralume.h.
+// The calls of the C side, on byte slices and one 64-bit number; those of the feed are in feed_calls. The header is
+// host/include/pedralume.h.
+pub mod feed_calls;
+mod feed_record;
 mod packing;
 
 ghost use mathlib.Core.Path.{_≡_};

@@ -40,7 +40,7 @@ given-space : (p : Panel) (trace answers : List ℕ)
 unfolding replayOf ended
 given-space p trace answers =
     when Enough (replaySizesWrong (length trace) (length (p .ram)) (length answers)) (λ _. omega arith)
-    (λ sizes. let right = sizes-right (length trace) (length (p .ram)) (length answers) sizes in
+    (λ sizes. let right = sizes-right (length trace) (length trace / 4) (length (p .ram)) (length answers) sizes in
     when Enough (not (inRange (p .left))) (λ _. omega arith)
     (λ _. when Enough (not (inRange (p .right))) (λ _. omega arith)
     (λ _. when Enough (not (eqb (length trace % 4) 0)) (λ _. omega arith)

@@ -15,3 +15,4 @@ pub mod RecordsUndo
 pub mod StepCases
 pub mod Verdicts
 pub mod WholePanel
+pub mod RecordNumbers

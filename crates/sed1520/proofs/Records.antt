@@ -17,7 +17,8 @@ front-own bytes more h = rw (at 0 (omega arith), at 1 (omega arith), at 2 (omega
     at : (i : ℕ) → i < 4 → getD (bytes ++ more) i 0 ≡ getD bytes i 0
     at i l = List·getD-append bytes more 0 i (omega arith)
 
-front-there : (bytes : List ℕ) → 4 ≤ length bytes → recordBytes (front bytes) ≡ take 4 bytes
+-- four bytes are their record's
+pub front-there : (bytes : List ℕ) → 4 ≤ length bytes → recordBytes (front bytes) ≡ take 4 bytes
 front-there [] h = absurd (omega arith)
 front-there (a ∷ []) h = absurd (omega arith)
 front-there (a ∷ b ∷ []) h = absurd (omega arith)

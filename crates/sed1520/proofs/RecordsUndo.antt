@@ -15,7 +15,7 @@ use Rattle.sed1520.specs.declared.registers.ReadLatch.the-variants.{Fres
 use Rattle.basics.specs.Choice.{if}
 use Rattle.basics.proofs.Tests.{both, when}
 use Rattle.sed1520.specs.ChipRecord.{bit, flag, mark, latchOf, chipBytes, registersIn, flagPlaces, flagsAt, flagsRight, recordRight}
-use Rattle.sed1520.specs.ChipRecord.{chipIn, chipsBytes, chipsOf, chipsIn}
+use Rattle.sed1520.specs.ChipRecord.{chipIn, chipsBytes, chipsOf, chipsIn, RecordsFit}
 use Rattle.sed1520.specs.Promises.{RecordsUndo}
 use Rattle.sed1520.proofs.Flags.{listed, flag-right, last-right}
 
@@ -122,6 +122,13 @@ module _ (left right : Chip) where
   pub two-pass : (recordRight (take 12 (chipsBytes left right)) && recordRight (drop 12 (chipsBytes left right))) ≡ (inRange left && inRange right)
   unfolding chipBytes
   two-pass = rw (chip-passes left, chip-passes right)
+
+-- the records of two chips in range, with the whole image, fit
+pub two-fit : (left right : Chip) (ram : List ℕ) → inRange left ≡ true → inRange right ≡ true → length ram ≡ 640
+    → RecordsFit (chipsBytes left right) ram
+unfolding chipBytes
+two-fit left right ram l r image =
+    record { records = two-length left right; left = chip-passes left ∙ l; right = chip-passes right ∙ r; image = image }
 
 pub two-back : (chips : List ℕ) → length chips ≡ 24 → recordRight (take 12 chips) ≡ true → recordRight (drop 12 chips) ≡ true
     → chipsBytes (chipsIn chips .left) (chipsIn chips .right) ≡ chips

@@ -1,15 +1,16 @@
 -- What is proved of the definitions beside the functions' contracts.
 use Prim.Native.Nat.{ℕ, zero, suc, _+_, _<_, _≤_}
 use mathlib.Core.Path.{_≡_}
-use mathlib.Core.Bool.{Bool, true, false}
+use mathlib.Core.Bool.{Bool, true, false, _&&_, _||_}
 use mathlib.Core.List.{List, [], _∷_}
-use lib.Dec.{eqb}
+use lib.Dec.{leb, eqb}
 use lib.ListN.{length, take, drop}
 use Rattle.basics.specs.Choice.{if}
 use Rattle.sed1520.specs.Chip.{inRange, fresh}
 use Rattle.sed1520.specs.ChipRecord.{chipBytes, chipsBytes, flagsRight, recordRight, chipIn, chipsOf, chipsIn, panelIn, RecordsFit}
 use Rattle.sed1520.specs.Command.{first, count, told, notTold, decodeOf, encodeOf}
 use Rattle.sed1520.specs.Cycle.{Outcome, outcome, refusal, stepOf, cycleOf}
+use Rattle.sed1520.specs.Laws.{Whole}
 use Rattle.sed1520.specs.Panel.{Panel, chipAt, ramAt, outcomeOf, stepped}
 use Rattle.sed1520.specs.RecordStep.{Acted, stepRecords}
 use Rattle.sed1520.specs.declared.registers.Chip.{Chip}
@@ -94,3 +95,11 @@ pub record StepsPanel (p : Panel) (r : Record) (s : Acted) : Type 0 where
 -- on every two records that number 2 lets pass over the whole image
 abbrev pub EveryRecordStep : Type 0
 EveryRecordStep = (r : Record) (chips ram : List ℕ) → RecordsFit chips ram → StepsPanel (panelIn chips ram) r (stepRecords r chips ram)
+
+-- the numbers that a record may be given: done, or 4 to 8
+abbrev pub isRecordNumber : ℕ → Bool
+isRecordNumber n = eqb n 0 || (leb 4 n && leb n 8)
+
+-- every record is given one of these, where both chips are in range over the whole image
+abbrev pub EveryRecordNumber : Type 0
+EveryRecordNumber = (p : Panel) → Whole p → (r : Record) → isRecordNumber (outcomeOf p r .answer .number) ≡ true

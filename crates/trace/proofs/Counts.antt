@@ -27,6 +27,19 @@ differing-bound (a ∷ more) [] = omega arith
 differing-bound (a ∷ more) (r ∷ rs) =
     omega (arith, at-most-one (isCompared (a .kind) && not (eqb (a .byte) (r .byte))), differing-bound more rs)
 
+-- what differs was compared
+pub differing-compared : (given : List Reply) (rs : List Record) → differingIn given rs ≤ comparedIn given
+unfolding differingIn comparedIn
+differing-compared [] rs = omega arith
+differing-compared (a ∷ more) [] = omega arith
+differing-compared (a ∷ more) (r ∷ rs) =
+    omega (arith, at-most-if (isCompared (a .kind)) (not (eqb (a .byte) (r .byte))), differing-compared more rs)
+  where
+    at-most-if : (s t : Bool) → if (s && t) 1 0 ≤ if s 1 0
+    at-most-if true true = omega arith
+    at-most-if true false = omega arith
+    at-most-if false t = omega arith
+
 pub compared-more : (given : List Reply) (a : Reply) → comparedIn (given ++ (a ∷ [])) ≡ comparedIn given + if (isCompared (a .kind)) 1 0
 unfolding comparedIn
 compared-more [] a = omega arith
@@ -39,6 +52,27 @@ unfolding differingIn
 differing-more none given [] a h = absurd (omega arith)
 differing-more none [] (r ∷ rs) a h = omega arith
 differing-more none (b ∷ more) (r ∷ rs) a h = rw (differing-more none more rs a (omega arith)) (omega arith)
+
+-- two lists of replies joined, the first with a reply for each of its records
+pub compared-join : (given more : List Reply) → comparedIn (given ++ more) ≡ comparedIn given + comparedIn more
+unfolding comparedIn
+compared-join [] more = omega arith
+compared-join (a ∷ given) more = rw (compared-join given more) (omega arith)
+
+pub differing-join : (given more : List Reply) (rs qs : List Record) → length given ≡ length rs
+    → differingIn (given ++ more) (rs ++ qs) ≡ differingIn given rs + differingIn more qs
+unfolding differingIn
+differing-join [] more [] qs h = omega arith
+differing-join [] more (r ∷ rs) qs h = absurd (omega arith)
+differing-join (a ∷ given) more [] qs h = absurd (omega arith)
+differing-join (a ∷ given) more (r ∷ rs) qs h = rw (differing-join given more rs qs (omega arith)) (omega arith)
+
+-- records past the replies are not looked at
+pub differing-front : (given : List Reply) (rs qs : List Record) → length given ≤ length rs → differingIn given (rs ++ qs) ≡ differingIn given rs
+unfolding differingIn
+differing-front [] rs qs h = refl
+differing-front (a ∷ given) [] qs h = absurd (omega arith)
+differing-front (a ∷ given) (r ∷ rs) qs h = rw (differing-front given rs qs (omega arith))
 
 pub differing-prefix : (k : ℕ) (given : List Reply) (rs : List Record) → differingIn (take k given) (take k rs) ≡ differingIn (take k given) rs
 unfolding differingIn

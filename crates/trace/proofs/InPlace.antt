@@ -70,11 +70,11 @@ out-of-range p trace answers out =
     (λ r. absurd (true≢false (rw (not-false (inRange (p .left)) l, not-false (inRange (p .right)) r) at out)))))
 
 -- the panel of two chips, read from their records
-panel-there : (left right : Chip) (ram : List ℕ) → panelIn (chipsBytes left right) ram ≡ panelOf left right ram
+pub panel-there : (left right : Chip) (ram : List ℕ) → panelIn (chipsBytes left right) ram ≡ panelOf left right ram
 panel-there left right ram = ap (λ (c : Chips). panelOf (c .left) (c .right) ram) (two-there left right)
 
 -- a panel read back from the records of two chips, where it is theirs if one of them is out of range
-panel-back : (left right : Chip) (ram : List ℕ) (p : Panel) → ((inRange left && inRange right) ≡ false → p ≡ panelOf left right ram)
+pub panel-back : (left right : Chip) (ram : List ℕ) (p : Panel) → ((inRange left && inRange right) ≡ false → p ≡ panelOf left right ram)
     → panelIn (rewritten (chipsBytes left right) p) (p .ram) ≡ p
 panel-back left right ram p stays =
     rw (two-pass left right)

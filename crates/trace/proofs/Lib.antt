@@ -6,3 +6,15 @@ pub mod ReplayCases
 pub mod Counts
 pub mod Upto
 pub mod Ends
+pub mod Joined
+pub mod KeptOver
+pub mod FeedCases
+pub mod OverRecords
+pub mod PartCases
+pub mod HeldFeed
+pub mod Feeding
+pub mod Feeds
+pub mod AnyCut
+pub mod EveryRun
+pub mod StoppedFeed
+pub mod RunNumbers

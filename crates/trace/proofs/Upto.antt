@@ -3,7 +3,7 @@
 use Prim.Native.Nat.{ℕ, suc, _+_, _-_, _*_, _/_, _<_, _≤_}
 use native.Mathlib.Omega.{arith}
 use native.Mathlib.Numerals.{add-one}
-use mathlib.Core.Path.{_≡_, refl, sym, ap, _∙_}
+use mathlib.Core.Path.{_≡_, refl, sym, _∙_}
 use mathlib.Core.Bool.{not, _&&_}
 use mathlib.Core.List.{List, [], _∷_, _++_, flatMap, append-assoc}
 use lib.Dec.{eqb}
@@ -25,7 +25,7 @@ use Rattle.sed1520.specs.declared.record_step.BareAnswer.{BareAnswer}
 use Rattle.sed1520.proofs.PanelLaws.{refused-record}
 use Rattle.sed1520.proofs.Records.{recordFrom, front-at, records-length, record-at}
 use Rattle.sed1520.proofs.RecordSteps.{every-record-step}
-use Rattle.trace.specs.Replay.{isCompared, comparedIn, differingIn, replyBytes, repliesBytes, endedAt, ended, traceRun}
+use Rattle.trace.specs.Replay.{isCompared, comparedIn, differingIn, replyBytes, repliesBytes, endedAt, ended, endedBytes, traceRun}
 use Rattle.trace.proofs.Counts.{at-most-one, compared-more, differing-more}
 
 pub record Upto (p : Panel) (trace buffer chips ram answers : List ℕ) (compared differing at : ℕ) : Type 0 where
@@ -74,12 +74,12 @@ module _ {p : Panel} {trace buffer chips ram answers : List ℕ} {compared diffe
 
   -- the replay ends here
   ends : (n : ℕ) → traceRun p trace ≡ ranTo n (upto .replies) (panelIn chips ram)
-      → endedAt n at compared differing (panelIn chips ram) answers ≡ ended (traceRun p trace) records buffer
+      → endedAt n at compared differing (panelIn chips ram) answers ≡ endedBytes p trace buffer
   unfolding ended
   ends n e =
       rw (e, upto .replied) (rw (← upto .so-compared, ← upto .so-differing, ← upto .written .bytes))
 
-  pub finished : length trace / 4 ≤ at → endedAt 0 at compared differing (panelIn chips ram) answers ≡ ended (traceRun p trace) records buffer
+  pub finished : length trace / 4 ≤ at → endedAt 0 at compared differing (panelIn chips ram) answers ≡ endedBytes p trace buffer
   finished h = ends 0 (rw (take-all at records (omega (arith, all))) at (upto .run))
 
   -- a record is left, read from the trace, and given to its chip
@@ -101,7 +101,7 @@ module _ {p : Panel} {trace buffer chips ram answers : List ℕ} {compared diffe
     fits-again = on-panel .fit
 
     pub refused-here : (a .number ≡ 0 → ⊥)
-        → endedAt (a .number) at compared differing (panelIn chips′ ram′) answers ≡ ended (traceRun p trace) records buffer
+        → endedAt (a .number) at compared differing (panelIn chips′ ram′) answers ≡ endedBytes p trace buffer
     refused-here h =
         let next = refused-next panelTurn p (take at records) (upto .run) bus (drop (suc at) records) (nonzero h) in
         let cut = rw here at (split-at records at bus (omega (arith, all))) in

@@ -1,3 +1,6 @@
 pub mod Replay
 pub mod Promises
 pub mod Refusals
+pub mod Feed
+pub mod FeedInPlace
+pub mod FeedPromises

@@ -66,9 +66,17 @@ ended r rs answers =
 abbrev pub traceRun : Panel → List ℕ → Run Panel Reply
 traceRun p trace = panelRun p (wholeRecords trace)
 
--- number 1: a trace over 65,536 bytes, an image that is not 640, answers under two bytes for each whole record
-unfoldable pub replaySizesWrong : ℕ → ℕ → ℕ → Bool
-replaySizesWrong trace ram answers = ltb 65536 trace || (not (eqb ram 640) || ltb answers (2 * (trace / 4)))
+-- how the whole records of bytes end on a panel
+abbrev pub endedBytes : Panel → List ℕ → List ℕ → ReplayOutcome
+endedBytes p bytes answers = ended (traceRun p bytes) (wholeRecords bytes) answers
+
+-- number 1: over 65,536 bytes, an image that is not 640, answers under two bytes for each of so many records
+unfoldable pub sizesWrong : ℕ → ℕ → ℕ → ℕ → Bool
+sizesWrong bytes records ram answers = ltb 65536 bytes || (not (eqb ram 640) || ltb answers (2 * records))
+
+-- of a replay: each whole record of the trace is answered
+abbrev pub replaySizesWrong : ℕ → ℕ → ℕ → Bool
+replaySizesWrong trace ram answers = sizesWrong trace (trace / 4) ram answers
 
 -- numbers 1, 2 (left before right) and 3, then the records
 unfoldable pub replayOf : Panel → List ℕ → List ℕ → ReplayOutcome
@@ -77,13 +85,13 @@ replayOf p trace answers =
     (if (not (inRange (p .left))) (refusedAt 2 0 p answers)
     (if (not (inRange (p .right))) (refusedAt 2 1 p answers)
     (if (not (eqb (length trace % 4) 0)) (refusedAt 3 (length trace / 4) p answers)
-    (ended (traceRun p trace) (wholeRecords trace) answers))))
+    (endedBytes p trace answers))))
 
 -- what the function gives back and leaves in what it was lent, as an outcome
 abbrev pub replayOutcome : Replayed → List ℕ → List ℕ → ReplayOutcome
 replayOutcome r ram answers = endedAt (r .number) (r .place) (r .compared) (r .differing) (panelOf (r .left) (r .right) ram) answers
 
--- what a replay over chip records gives back, and what it leaves in the records, the image and the answer buffer
+-- what a replay or a part over chip records gives back, and what it leaves in the records, the image and the answer buffer
 pub record InPlace (A : Type 0) : Type 0 where
   pub answer : A
   pub chips : List ℕ
@@ -98,7 +106,11 @@ inPlace a chips ram answers = record { answer = a; chips = chips; ram = ram; ans
 abbrev pub ranOf : ℕ → ℕ → ℕ → ℕ → Ran
 ranOf n at compared differing = record { number = n; place = at; compared = compared; differing = differing }
 
--- a refusal before the first record
+-- the number, the place and the counts of an outcome
+abbrev pub ranAs : ReplayOutcome → Ran
+ranAs o = ranOf (o .number) (o .place) (o .compared) (o .differing)
+
+-- no record run
 abbrev pub ranNothing : ℕ → ℕ → Ran
 ranNothing n at = ranOf n at 0 0
 
@@ -109,7 +121,7 @@ rewritten chips p = if (recordRight (take 12 chips) && recordRight (drop 12 chip
 -- an outcome on the panel, its chips written back as records
 abbrev pub overRecords : List ℕ → ReplayOutcome → InPlace Ran
 overRecords chips o =
-    inPlace (ranOf (o .number) (o .place) (o .compared) (o .differing)) (rewritten chips (o .panel)) (o .panel .ram) (o .answers)
+    inPlace (ranAs o) (rewritten chips (o .panel)) (o .panel .ram) (o .answers)
 
 -- number 1 for chips that are not 24 bytes, then the replay on the panel read from the records
 unfoldable pub replayInPlace : List ℕ → List ℕ → List ℕ → List ℕ → InPlace Ran

@@ -1,4 +1,9 @@
-// The replay of a recorded bus trace on two chips: what they answer to each record and what they hold afterwards.
+// The replay of a recorded bus trace on two chips, whole or in parts: what they answer to each record and what they hold
+// afterwards.
+pub mod feed;
+pub mod held_feed;
+pub mod progress;
+
 ghost use Prim.Native.Nat.{_*_, _/_, _≤_};
 ghost use mathlib.Core.Path.{_≡_};
 ghost use mathlib.Core.Bool.{_&&_, not};
@@ -7,8 +12,7 @@ ghost use lib.ListN.{length};
 ghost use Rattle.basics.specs.Choice.{if};
 ghost use Rattle.sed1520.specs.ChipRecord.{panelIn, RecordsFit};
 ghost use Rattle.sed1520.specs.Panel.{panelOf};
-ghost use Rattle.sed1520.specs.Records.{wholeRecords};
-ghost use Rattle.trace.specs.Replay.{isCompared, ranNothing, replayOutcome, traceRun, ended, replaySizesWrong, replayOf};
+ghost use Rattle.trace.specs.Replay.{isCompared, ranNothing, replayOutcome, endedBytes, sizesWrong, replayOf};
 ghost use Rattle.trace.specs.Replay.{inPlace, overRecords, replayInPlace};
 use sed1520::bus::IMAGE_BYTES;
 use sed1520::bus::Record;
@@ -18,7 +22,7 @@ use sed1520::chip_record::chips_in;
 use sed1520::record_step::step_of_tested_records;
 use sed1520::registers::Chip;
 
-// The most bytes that a trace may have.
+// The most bytes that a trace that is replayed, or a part of a feed, may have.
 pub const TRACE_BYTES: usize = 65536;
 
 // The bytes of a record.
@@ -38,7 +42,7 @@ pub struct Replayed {
     pub right: Chip,
 }
 
-// What a replay over chip records gives back beside what it was lent.
+// What a replay over chip records, and each call of a feed, gives back beside what it was lent.
 pub struct Ran {
     pub number: u8,
     pub place: u64,
@@ -65,14 +69,13 @@ fn differs(kind: u8, byte: u8, recorded: u8) -> u64
 }
 
 // The records one after the other on two chip records that number 2 lets pass, up to the first that is refused.
-fn run(chips: &mut [u8], ram: &mut [u8], trace: &[u8], answers: &mut [u8]) -> Ran
+pub(crate) fn run(chips: &mut [u8], ram: &mut [u8], trace: &[u8], answers: &mut [u8]) -> Ran
     requires { ⌜ RecordsFit (now chips) (now ram) ⌝ }
     requires { ⌜ 2 * (length (now trace) / 4) ≤ length (now answers) ⌝ }
     requires { ⌜ length (now trace) ≤ 65536 ⌝ }
     ensures { λ r. ⌜ inPlace r (now (chips .exit)) (now (ram .exit)) (now (answers .exit))
         ≡ overRecords (now (chips .entry))
-        (ended (traceRun (panelIn (now (chips .entry)) (now (ram .entry))) (now (trace .entry)))
-        (wholeRecords (now (trace .entry))) (now (answers .entry))) ⌝ }
+        (endedBytes (panelIn (now (chips .entry)) (now (ram .entry))) (now (trace .entry)) (now (answers .entry))) ⌝ }
 {
     let mut compared: u64 = 0;
     let mut differing: u64 = 0;
@@ -109,8 +112,8 @@ fn run(chips: &mut [u8], ram: &mut [u8], trace: &[u8], answers: &mut [u8]) -> Ra
     }
 }
 
-// Refused before the first record: nothing is changed and nothing compared.
-fn refused(number: u8, place: u64) -> Ran
+// No record run: nothing is changed and nothing compared.
+pub(crate) fn ran_nothing(number: u8, place: u64) -> Ran
     ensures { λ r. ⌜ r ≡ ranNothing number place ⌝ }
 {
     Ran {
@@ -128,22 +131,23 @@ pub fn replay_in_place(chips: &mut [u8], ram: &mut [u8], trace: &[u8], answers: 
         ≡ replayInPlace (now (chips .entry)) (now (ram .entry)) (now (trace .entry)) (now (answers .entry)) ⌝ }
 {
     if chips.len() != CHIPS_BYTES {
-        return refused(1, 0);
+        return ran_nothing(1, 0);
     }
-    if sizes_wrong(trace.len(), ram.len(), answers.len()) {
-        return refused(1, 0);
+    let records = trace.len() / RECORD_BYTES;
+    if sizes_wrong(trace.len(), records, ram.len(), answers.len()) {
+        return ran_nothing(1, 0);
     }
     let both = chips_in(chips);
     let left = both.left;
     if !left.in_range() {
-        return refused(2, 0);
+        return ran_nothing(2, 0);
     }
     let right = both.right;
     if !right.in_range() {
-        return refused(2, 1);
+        return ran_nothing(2, 1);
     }
     if trace.len() % RECORD_BYTES != 0 {
-        return refused(3, (trace.len() / RECORD_BYTES) as u64);
+        return ran_nothing(3, records as u64);
     }
     run(chips, ram, trace, answers)
 }
@@ -168,15 +172,15 @@ pub fn replay(left: Chip, right: Chip, ram: &mut [u8], trace: &[u8], answers: &m
     }
 }
 
-// Number 1: a trace that is too long, an image that is not 640 bytes, or fewer than two answer bytes for each whole record.
-fn sizes_wrong(trace: usize, ram: usize, answers: usize) -> bool
-    ensures { λ r. ⌜ r ≡ replaySizesWrong trace ram answers ⌝ }
+// Number 1: more bytes than one call may take, an image that is not 640, or fewer than two answer bytes for each record.
+pub(crate) fn sizes_wrong(bytes: usize, records: usize, ram: usize, answers: usize) -> bool
+    ensures { λ r. ⌜ r ≡ sizesWrong bytes records ram answers ⌝ }
 {
-    if TRACE_BYTES < trace {
+    if TRACE_BYTES < bytes {
         return true;
     }
     if ram != IMAGE_BYTES {
         return true;
     }
-    answers < ANSWER_BYTES * (trace / RECORD_BYTES)
+    answers / ANSWER_BYTES < records
 }

@@ -2,24 +2,23 @@
 use Prim.Native.Nat.{ℕ, suc, _+_, _-_, _*_, _/_, _<_, _≤_}
 use native.Mathlib.Omega.{arith}
 use native.Mathlib.Numerals.{add-one}
-use mathlib.Core.Path.{_≡_, refl, sym, ap, _∙_}
+use mathlib.Core.Path.{_≡_}
 use mathlib.Core.Bool.{true, false}
 use mathlib.Core.List.{List, [], _∷_, _++_}
 use lib.Dec.{eqb}
 use lib.ListN.{length, getD, take, drop, replicate}
-use lib.Seq.{take-suc, split-at, take-all}
+use lib.Seq.{take-suc, split-at}
 use borrow.Author.Tests.{eq-eqb, ne-eqb}
 use Rattle.basics.specs.Lists.{pieces}
-use Rattle.basics.specs.Run.{ranTo, runOf}
+use Rattle.basics.specs.Run.{ranTo}
 use Rattle.basics.proofs.Parts.{rest}
 use Rattle.basics.proofs.Pieces.{pieces-length, pieces-take, piece-at}
 use Rattle.basics.proofs.Run.{one-more, refused-next}
 use Rattle.sed1520.specs.Chip.{fresh}
-use Rattle.sed1520.specs.Cycle.{Reply, ChipAndRam, outcome, cycleOf}
+use Rattle.sed1520.specs.Cycle.{Reply, outcome, cycleOf}
 use Rattle.sed1520.specs.Records.{front}
 use Rattle.sed1520.specs.declared.registers.Chip.{Chip}
 use Rattle.sed1520.specs.declared.actions.Answer.{Answer}
-use Rattle.sed1520.specs.declared.bus.Record.{Record}
 use Rattle.vectors.specs.Rows.{rowAgrees, rowTurn, rowsRun, agreesOf}
 
 module _ (row : List ℕ) (a : Answer) where

@@ -42,19 +42,19 @@ right-in : (c : tie.Else4) → inRange (chipsIn (second (sized (read (left-passe
 right-in c = rw (read (left-passed c) .chips-in .ensures) at (sym (c .before .in-range2 .ensures) ∙ not-false _ (c .if4 .left))
 
 returns : tie.Need-returns
-returns c = rw (c .refused .ensures) (sym (chips-refused _ _ _ _ (c .before .if1 .taken)))
+returns c = rw (c .ran-nothing .ensures) (sym (chips-refused _ _ _ _ (c .before .if1 .taken)))
 
 returns-2 : tie.Need-returns-2
 returns-2 c =
     let wrong = sym (c .before .before .sizes-wrong .ensures) ∙ c .before .if2 .taken in
-    rw (c .refused2 .ensures) (sym (refused-before _ _ _ _ (omega arith) 1 0 (size-refused _ _ _ wrong)))
+    rw (c .ran-nothing2 .ensures) (sym (refused-before _ _ _ _ (omega arith) 1 0 (size-refused _ _ _ wrong)))
 
 returns-3 : tie.Need-returns-3
 returns-3 c =
     let test = c .before .before in
     let chips = test .before .before in
     let out = rw (chips .chips-in .ensures) at (sym (test .in-range .ensures) ∙ not-true _ (c .before .if3 .taken)) in
-    rw (c .refused3 .ensures) (sym (refused-before _ _ _ _ (omega arith) 2 0 (left-refused _ _ _ (sizes (sized chips)) out)))
+    rw (c .ran-nothing3 .ensures) (sym (refused-before _ _ _ _ (omega arith) 2 0 (left-refused _ _ _ (sizes (sized chips)) out)))
 
 returns-4 : tie.Need-returns-4
 returns-4 c =
@@ -62,20 +62,20 @@ returns-4 c =
     let left = test .before .before in
     let out = rw (read left .chips-in .ensures) at (sym (test .in-range2 .ensures) ∙ not-true _ (c .before .if4 .taken)) in
     let right-out = right-refused _ _ _ (sizes (sized (read left))) (left-in left) out in
-    rw (c .refused4 .ensures) (sym (refused-before _ _ _ _ (omega arith) 2 1 right-out))
+    rw (c .ran-nothing4 .ensures) (sym (refused-before _ _ _ _ (omega arith) 2 1 right-out))
 
 returns-5 : tie.Need-returns-5
 returns-5 c =
     let right = c .before .before in
     let left = left-passed right in
     let ragged = length-refused _ _ _ (sizes (sized (read left))) (left-in left) (right-in right) (c .before .if5 .taken) in
-    rw (c .refused5 .ensures) (sym (refused-before _ _ _ _ (omega arith) 3 _ ragged))
+    rw (c .ran-nothing5 .ensures) (sym (refused-before _ _ _ _ (omega arith) 3 _ ragged))
 
 run-requires : tie.Need-run-requires
 run-requires c κs =
     let right = c .before .before .before .before in
     let left = left-passed right in
-    let fitting = sizes-right _ _ _ (sizes (sized (read left))) in
+    let fitting = sizes-right _ _ _ _ (sizes (sized (read left))) in
     (records-fit _ _ (omega arith) (left-in left) (right-in right) (fitting .image), (fitting .space, fitting .short))
 
 returns-6 : tie.Need-returns-6

@@ -1,0 +1,137 @@
+-- The progress after a call of the feed fits its bytes again.
+use Prim.Native.Nat.{ℕ, _+_, _*_, _/_, _<_, _≤_}
+use native.Mathlib.Omega.{arith}
+use mathlib.Core.Path.{_≡_, refl}
+use mathlib.Core.Bool.{true, not}
+use mathlib.Core.List.{List, []}
+use lib.Dec.{eqb}
+use lib.ListN.{length}
+use borrow.Author.Tests.{eqb-true}
+use Rattle.basics.proofs.Tests.{when}
+use Rattle.sed1520.specs.Chip.{inRange}
+use Rattle.sed1520.specs.Laws.{Whole}
+use Rattle.sed1520.specs.Panel.{panelOf}
+use Rattle.sed1520.specs.Promises.{isRecordNumber}
+use Rattle.sed1520.specs.declared.registers.Chip.{Chip}
+use Rattle.sed1520.specs.declared.verdict.Verdict.{Verdict}
+use Rattle.trace.specs.Replay.{ranOf, ranAs, ended, endedBytes}
+use Rattle.trace.specs.Feed.{begun, joinedTo, cutOff, progressWrong, feedOf, stateVerdict, partVerdict, PartOutcome, countedOn, movedOn, stoppedWith}
+use Rattle.trace.specs.Feed.{openOf, openPart, partOf, openClose, closeOf}
+use Rattle.trace.specs.declared.Ran.{Ran}
+use Rattle.trace.specs.declared.progress.Ending.{Ending}
+use Rattle.trace.specs.declared.progress.Ending.the-variants.{Open, Stopped}
+use Rattle.trace.specs.declared.progress.Progress.{Progress}
+use Rattle.trace.specs.declared.feed.Feed.{Feed}
+use Rattle.trace.specs.declared.feed.Fed.{Fed}
+use Rattle.trace.proofs.Bounds.{ran-few}
+use Rattle.trace.proofs.FeedCases.{PartRight, part-right, state-place, by-ending}
+use Rattle.trace.proofs.KeptOver.{joined-length, cut-off-length}
+use Rattle.trace.proofs.RunNumbers.{run-number, low-number}
+use Rattle.pedralume.specs.FeedRecord.{numberByte, placeOf}
+use Rattle.pedralume.specs.FeedPromises.{BytesFit, Fits}
+use Rattle.pedralume.proofs.BytesFit.{no-byte, byte-more, append-fit, take-fit, drop-fit}
+
+-- the number of a part's records, run on a whole panel
+module _ (f : Feed) (ram part answers : List ℕ) (right : PartRight f (length ram) (length part) (length answers)) where
+  pub part-number : isRecordNumber (endedBytes (panelOf (f .left) (f .right) ram) (joinedTo (f .progress) part) answers .number) ≡ true
+  unfolding ended
+  part-number =
+      let whole : Whole (panelOf (f .left) (f .right) ram) =
+      record { left = right .state .left; right = right .state .right; image = right .sizes .image } in
+      run-number (panelOf (f .left) (f .right) ram) whole (joinedTo (f .progress) part)
+
+abbrev FedFits : Fed → Type 0
+FedFits o = Fits (o .feed .progress)
+
+state-number : (f : Feed) → stateVerdict f .number ≤ 2
+unfolding stateVerdict
+state-number f =
+    when (λ (v : Verdict). v .number ≤ 2) (not (inRange (f .left))) (λ _. omega arith)
+    (λ _. when (λ (v : Verdict). v .number ≤ 2) (not (inRange (f .right))) (λ _. omega arith)
+    (λ _. when (λ (v : Verdict). v .number ≤ 2) (progressWrong (f .progress)) (λ _. omega arith) (λ _. omega arith)))
+
+-- counts that fit, with bytes to keep over and an ending that fit
+module _ (t : Progress) (ran : Ran) (records : t .records + ran .place < 4294967296) (compared : t .compared + ran .compared < 4294967296)
+    (differing : t .differing + ran .differing < 4294967296) where
+  counted-fits : (rest : List ℕ) (e : Ending) → length rest < 256 → BytesFit rest → numberByte e < 256 → placeOf e < 4294967296
+      → Fits (countedOn t ran rest e)
+  counted-fits rest e short fit number place =
+      record {
+        kept = short;
+        first = fit .each 0;
+        second = fit .each 1;
+        third = fit .each 2;
+        records = records;
+        compared = compared;
+        differing = differing;
+        number = number;
+        place = place;
+      }
+
+  moved-fits : (bytes : List ℕ) → BytesFit bytes → ran .number < 256 → Fits (movedOn t bytes ran)
+  unfolding movedOn
+  moved-fits bytes fit number =
+      when Fits (eqb (ran .number) 0)
+      (λ _. let few : length (cutOff bytes) < 256 = omega (arith, cut-off-length bytes) in
+      counted-fits (cutOff bytes) Open few (drop-fit (4 * (length bytes / 4)) bytes fit) (omega arith) (omega arith))
+      (λ _. counted-fits [] (Stopped (ran .number) (t .records + ran .place)) (omega arith) no-byte number records)
+
+joined-fit : (t : Progress) (part : List ℕ) → Fits t → BytesFit part → BytesFit (joinedTo t part)
+joined-fit t part fits fit =
+    let kept = byte-more (t .first) (fits .first) (byte-more (t .second) (fits .second) (byte-more (t .third) (fits .third) no-byte)) in
+    append-fit _ part (take-fit (t .kept) _ kept) fit
+
+module _ (f : Feed) (fits : Fits (f .progress)) where
+  pub part-fits : (ram part answers : List ℕ) → BytesFit part → FedFits (partOf f ram part answers .fed)
+  unfolding partOf openPart
+  part-fits ram part answers fit =
+      let t = f .progress in
+      let bytes = joinedTo t part in
+      by-ending (λ (o : PartOutcome). FedFits (o .fed)) (t .ending) (λ n at e. fits)
+      (λ _. when (λ (o : PartOutcome). FedFits (o .fed)) (eqb (partVerdict f (length ram) (length part) (length answers) .number) 0)
+      (λ z. let right = part-right f (length ram) (length part) (length answers) (eqb-true _ 0 z) in
+      let few = ran-few (panelOf (f .left) (f .right) ram) bytes answers refl in
+      let state = right .state in
+      let size = joined-length t (state .few) part in
+      let n = low-number (endedBytes (panelOf (f .left) (f .right) ram) bytes answers .number) (part-number f ram part answers right) in
+      let o = endedBytes (panelOf (f .left) (f .right) ram) bytes answers in
+      moved-fits t (ranAs o)
+      (omega (arith, few .place-few, size, right .countable))
+      (omega (arith, few .compared-few, size, right .countable, state .compared))
+      (omega (arith, few .differing-few, size, right .countable, state .compared, state .differing))
+      bytes (joined-fit t part fits fit) (omega (arith, n)))
+      (λ _. fits))
+
+  pub close-fits : FedFits (closeOf f)
+  unfolding closeOf openClose
+  close-fits =
+      by-ending FedFits (f .progress .ending) (λ n at e. fits)
+      (λ _. when FedFits (eqb (stateVerdict f .number) 0)
+      (λ _. stopped-fits (when (λ (n : ℕ). n < 256) (eqb (f .progress .kept) 0) (λ _. omega arith) (λ _. omega arith)))
+      (λ _. fits))
+    where
+      stopped-fits : {n : ℕ} → n < 256 → FedFits (stoppedWith f n)
+      stopped-fits h =
+          record {
+            kept = fits .kept;
+            first = fits .first;
+            second = fits .second;
+            third = fits .third;
+            records = fits .records;
+            compared = fits .compared;
+            differing = fits .differing;
+            number = h;
+            place = fits .records;
+          }
+
+begun-fits : (e : Ending) → numberByte e < 256 → placeOf e < 4294967296 → Fits (begun e)
+begun-fits e number place =
+    counted-fits (begun Open) (ranOf 0 0 0 0) (omega arith) (omega arith) (omega arith) [] e (omega arith) no-byte number place
+
+pub open-fits : (left right : Chip) → FedFits (openOf left right)
+unfolding openOf
+open-fits left right =
+    let f = feedOf left right (begun Open) in
+    let v = stateVerdict f in
+    when FedFits (eqb (v .number) 0) (λ _. begun-fits Open (omega arith) (omega arith))
+    (λ _. begun-fits (Stopped (v .number) (v .place)) (omega (arith, state-number f)) (omega (arith, state-place f)))

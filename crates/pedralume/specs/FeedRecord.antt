@@ -1,0 +1,76 @@
+-- A feed as the C side has it: a record of 48 bytes, no header. 24 of the chips; kept count; 3 kept bytes; 1 = stopped; number; two 0; then four
+-- numbers of 4 bytes, lowest first: place, records, compared, differing.
+use Prim.Native.Nat.{ℕ, _+_, _*_, _/_, _%_}
+use mathlib.Core.Bool.{Bool, _&&_, _||_}
+use mathlib.Core.List.{List, [], _∷_, _++_}
+use lib.Dec.{eqb}
+use lib.ListN.{getD, take, drop}
+use Rattle.basics.specs.Choice.{if}
+use Rattle.sed1520.specs.ChipRecord.{chipsBytes}
+use Rattle.trace.specs.declared.progress.Ending.{Ending}
+use Rattle.trace.specs.declared.progress.Ending.the-variants.{Open, Stopped}
+use Rattle.trace.specs.declared.progress.Progress.{Progress}
+use Rattle.trace.specs.declared.feed.Feed.{Feed}
+
+-- four bytes as a number, lowest first
+abbrev pub wordOf : ℕ → ℕ → ℕ → ℕ → ℕ
+wordOf a b c d = a + 256 * b + 65536 * c + 16777216 * d
+
+-- four bytes from a place on as a number
+abbrev pub wordAt : List ℕ → ℕ → ℕ
+wordAt b at = wordOf (getD b at 0) (getD b (at + 1) 0) (getD b (at + 2) 0) (getD b (at + 3) 0)
+
+-- a number below 2^32 as four bytes, lowest first
+abbrev pub wordBytes : ℕ → List ℕ
+wordBytes n = n % 256 ∷ n / 256 % 256 ∷ n / 65536 % 256 ∷ n / 16777216 ∷ []
+
+-- four bytes from a place on replaced by those of a number
+abbrev pub putWord : List ℕ → ℕ → ℕ → List ℕ
+putWord b at n = take at b ++ (wordBytes n ++ drop (at + 4) b)
+
+-- 1 for a stopped feed
+abbrev pub stoppedByte : Ending → ℕ
+stoppedByte Open = 0
+stoppedByte (Stopped n at) = 1
+
+-- the number that a stopped feed repeats; 0 for an open one
+abbrev pub numberByte : Ending → ℕ
+numberByte Open = 0
+numberByte (Stopped n at) = n
+
+-- the place that a stopped feed repeats; 0 for an open one
+abbrev pub placeOf : Ending → ℕ
+placeOf Open = 0
+placeOf (Stopped n at) = at
+
+-- the 24 bytes behind the chips
+unfoldable pub progressBytes : Progress → List ℕ
+progressBytes t =
+    (t .kept ∷ t .first ∷ t .second ∷ t .third ∷ stoppedByte (t .ending) ∷ numberByte (t .ending) ∷ 0 ∷ 0 ∷ [])
+    ++ (wordBytes (placeOf (t .ending)) ++ (wordBytes (t .records) ++ (wordBytes (t .compared) ++ wordBytes (t .differing))))
+
+-- the 48 bytes of a feed
+abbrev pub feedBytes : Feed → List ℕ
+feedBytes f = chipsBytes (f .left) (f .right) ++ progressBytes (f .progress)
+
+-- stopped with its number and place, whatever else the 24 bytes say, else open
+abbrev pub endingIn : List ℕ → Ending
+endingIn b = if (eqb (getD b 4 0) 1) (Stopped (getD b 5 0) (wordAt b 8)) Open
+
+-- the marks of a stopped feed or of an open one: stopped is 1; or stopped, number and the two zeros, four bytes, are 0, and the place is 0
+unfoldable pub marksRight : List ℕ → Bool
+marksRight b = eqb (getD b 4 0) 1 || (eqb (wordAt b 4) 0 && eqb (wordAt b 8) 0)
+
+-- what the 24 bytes say; where the marks are wrong, counts that number 2 refuses at place 3, and which are never told or written
+unfoldable pub progressIn : List ℕ → Progress
+progressIn b =
+    record {
+      kept = getD b 0 0;
+      first = getD b 1 0;
+      second = getD b 2 0;
+      third = getD b 3 0;
+      records = wordAt b 12;
+      compared = if (marksRight b) (wordAt b 16) 0;
+      differing = if (marksRight b) (wordAt b 20) 1;
+      ending = endingIn b;
+    }

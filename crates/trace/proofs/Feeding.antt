@@ -1,0 +1,224 @@
+-- One part more: a feed that took some bytes takes the next ones, and is then the feed that took all of them.
+use Prim.Native.Nat.{ℕ, _+_, _-_, _*_, _/_, _%_, _≤_}
+use native.Mathlib.Omega.{arith}
+use mathlib.Core.Path.{_≡_, refl, sym, ap, _∙_}
+use mathlib.Core.Bool.{true, false, not, true≢false}
+use mathlib.Core.List.{List, [], _++_, append-nil}
+use mathlib.Core.Logic.{⊎-elim}
+use lib.Dec.{eqb}
+use lib.ListN.{length, drop, length-append}
+use lib.Seq.{take-at}
+use borrow.Author.Tests.{eqb-true, eqb-false, eq-eqb, ne-eqb}
+use Rattle.basics.specs.Run.{Run, ranTo}
+use Rattle.basics.proofs.Lists.{flat-append}
+use Rattle.basics.proofs.Run.{run-ends, run-join, run-cut, answers-bound}
+use Rattle.basics.proofs.Tests.{tested, when}
+use Rattle.sed1520.specs.Chip.{inRange}
+use Rattle.sed1520.specs.Cycle.{Reply}
+use Rattle.sed1520.specs.Laws.{Whole}
+use Rattle.sed1520.specs.Panel.{Panel, panelTurn, panelRun}
+use Rattle.sed1520.specs.Records.{front, wholeRecords}
+use Rattle.sed1520.specs.declared.verdict.Verdict.{Verdict}
+use Rattle.sed1520.proofs.PanelLaws.{after-whole}
+use Rattle.sed1520.proofs.Records.{records-length}
+use Rattle.trace.specs.Replay.{comparedIn, differingIn, replyBytes, repliesBytes, ended, endedBytes, traceRun, ranOf, sizesWrong}
+use Rattle.trace.specs.Feed.{keeping, cutOff, joinedTo, completedBy, tooMany, feedOf, stateVerdict, partVerdict, PartOutcome}
+use Rattle.trace.specs.Feed.{notTaken, movedOn, tookPart, openPart, partOf, progressWrong}
+use Rattle.trace.specs.FeedPromises.{Part, given, answersOf, refusesPart, feedAfter, fedAfter}
+use Rattle.trace.specs.declared.progress.Progress.{Progress}
+use Rattle.trace.specs.declared.progress.Ending.the-variants.{Open, Stopped}
+use Rattle.trace.specs.declared.feed.Feed.{Feed}
+use Rattle.trace.specs.declared.feed.Fed.{Fed}
+use Rattle.trace.proofs.Counts.{compared-bound, compared-join, differing-compared, differing-join, differing-front}
+use Rattle.trace.proofs.FeedCases.{StateRight, right-part}
+use Rattle.trace.proofs.Joined.{replies-length}
+use Rattle.trace.proofs.KeptOver.{cut-off-length, cut-off-on, records-on, kept-back}
+
+-- the numbers of a part before its first record
+abbrev pub Refuses : Verdict → Type 0
+Refuses v = eqb (v .number) 0 ≡ false → refusesPart (v .number) ≡ true
+
+pub refuses-part : (f : Feed) (ram part answers : ℕ) → Refuses (partVerdict f ram part answers)
+unfolding partVerdict stateVerdict
+refuses-part f ram part answers =
+    let more = completedBy (f .progress .kept) part in
+    when Refuses (sizesWrong part more ram answers) (λ _ e. refl)
+    (λ _. when Refuses (tooMany (f .progress .records) more) (λ _ e. refl)
+    (λ _. when Refuses (not (inRange (f .left))) (λ _ e. refl)
+    (λ _. when Refuses (not (inRange (f .right))) (λ _ e. refl)
+    (λ _. when Refuses (progressWrong (f .progress)) (λ _ e. refl) (λ _ e. absurd (true≢false e))))))
+
+-- what a part that is taken leaves: what it gives back, the image, and its own answers
+pub record Takes (f : Feed) (ram : List ℕ) (x : Part) (before after : Run Panel Reply) (bytes : List ℕ) : Type 0 where
+  pub fed : given f ram x .fed ≡ fedAfter after bytes
+  pub image : given f ram x .ram ≡ after .state .ram
+  pub answers : repliesBytes (before .answers) ++ answersOf f (given f ram x) ≡ repliesBytes (after .answers)
+
+module _ (p : Panel) (bytes : List ℕ) (x : Part) where
+  abbrev before : Run Panel Reply
+  before = traceRun p bytes
+
+  abbrev next : List ℕ
+  next = cutOff bytes ++ x .bytes
+
+  abbrev second : Run Panel Reply
+  second = panelRun (before .state) (wholeRecords next)
+
+  abbrev after : Run Panel Reply
+  after = traceRun p (bytes ++ x .bytes)
+
+  f : Feed
+  f = feedAfter before bytes
+
+  -- a stopped feed
+  module _ (refused : before .number ≡ 0 → ⊥) where
+    same-run : after ≡ before
+    same-run = rw (records-on bytes (x .bytes)) (run-cut panelTurn p (wholeRecords bytes) (wholeRecords next) refused)
+
+    stopped-part : given f (before .state .ram) x ≡ notTaken f (before .state .ram) (x .buffer) (before .number) (length (before .answers))
+    unfolding partOf f
+    stopped-part = rw (ne-eqb (before .number) 0 refused)
+
+    same-fed : fedAfter after (bytes ++ x .bytes) ≡ fedAfter before bytes
+    same-fed =
+        rw (same-run, records-on bytes (x .bytes), ne-eqb (before .number) 0 refused)
+        (rw (differing-front (before .answers) (wholeRecords bytes) (wholeRecords next) (answers-bound panelTurn (wholeRecords bytes) p)))
+
+    takes-nothing : Takes f (before .state .ram) x before after (bytes ++ x .bytes)
+    unfolding f
+    takes-nothing =
+        let none : 2 * (length (before .answers) - length (before .answers)) ≡ 0 = omega arith in
+        record {
+          fed = ap (λ (o : PartOutcome). o .fed) stopped-part ∙ sym same-fed;
+          image = ap (λ (o : PartOutcome). o .ram) stopped-part ∙ rw same-run;
+          answers = rw stopped-part (rw (none, same-run) (append-nil (repliesBytes (before .answers))));
+        }
+
+  -- an open one
+  module _ (done : before .number ≡ 0) where
+    few : length (cutOff bytes) ≤ 3
+    few = omega (arith, cut-off-length bytes)
+
+    t : Progress
+    t = keeping (cutOff bytes) (length (before .answers)) (comparedIn (before .answers)) (differingIn (before .answers) (wholeRecords bytes)) Open
+
+    still-open : f ≡ feedOf (before .state .left) (before .state .right) t
+    unfolding f t
+    still-open = rw (eq-eqb (before .number) 0 done)
+
+    joined-next : joinedTo t (x .bytes) ≡ next
+    unfolding t
+    joined-next = rw (kept-back (cutOff bytes) _ _ _ Open few)
+
+    all : length (before .answers) ≡ length (wholeRecords bytes)
+    all = run-ends panelTurn (front []) (wholeRecords bytes) p .done done
+
+    run-on : after ≡ ranTo (second .number) (before .answers ++ second .answers) (second .state)
+    run-on = rw (records-on bytes (x .bytes)) (run-join panelTurn p (wholeRecords bytes) (wholeRecords next) done)
+
+    -- the counts go on to those of all records
+    moved : let n = length (second .answers) in
+        movedOn t next (ranOf (second .number) n (comparedIn (second .answers)) (differingIn (second .answers) (wholeRecords next)))
+        ≡ feedAfter after (bytes ++ x .bytes) .progress
+    unfolding movedOn t
+    moved =
+        rw (run-on, records-on bytes (x .bytes), cut-off-on bytes (x .bytes))
+        (rw (
+          length-append (before .answers) (second .answers),
+          compared-join (before .answers) (second .answers),
+          differing-join (before .answers) (second .answers) (wholeRecords bytes) (wholeRecords next) all,
+        )
+        (⊎-elim (λ e. rw e) (λ e. rw e) (tested (eqb (second .number) 0))))
+
+    abbrev g : Feed
+    g = feedOf (before .state .left) (before .state .right) t
+
+    module _ (right : partVerdict g (length (before .state .ram)) (length (x .bytes)) (length (x .buffer)) .number ≡ 0) where
+      part-is : given f (before .state .ram) x ≡ tookPart g next (endedBytes (before .state) next (x .buffer))
+      unfolding partOf openPart t
+      part-is =
+          let verdict = partVerdict g (length (before .state .ram)) (length (x .bytes)) (length (x .buffer)) .number in
+          rw still-open (rw (eq-eqb verdict 0 right, joined-next))
+
+      takes-fed : given f (before .state .ram) x .fed ≡ fedAfter after (bytes ++ x .bytes)
+      unfolding ended
+      takes-fed = ap (λ (o : PartOutcome). o .fed) part-is ∙ rw moved (rw run-on)
+
+      -- its answers stand at the front of its buffer
+      own-answers : answersOf f (given f (before .state .ram) x) ≡ repliesBytes (second .answers)
+      unfolding ended f
+      own-answers =
+          let a = length (before .answers) in
+          let b = length (second .answers) in
+          let buffer = ap (λ (o : PartOutcome). o .answers) part-is in
+          let count = rw run-on at (ap (λ (d : Fed). d .feed .progress .records) takes-fed) in
+          let behind : 2 * (a + b - a) ≡ 2 * b = omega arith in
+          rw (buffer, count) (rw (length-append (before .answers) (second .answers), behind)
+          (take-at (repliesBytes (second .answers)) (drop (2 * b) (x .buffer)) (2 * b) (replies-length (second .answers))))
+
+      takes-all : Takes f (before .state .ram) x before after (bytes ++ x .bytes)
+      unfolding ended
+      takes-all =
+          record {
+            fed = takes-fed;
+            image = ap (λ (o : PartOutcome). o .ram) part-is ∙ rw run-on;
+            answers = rw (own-answers, run-on) (sym (flat-append replyBytes (before .answers) (second .answers)));
+          }
+
+    -- refused before the first record
+    refused-first : eqb (partVerdict g (length (before .state .ram)) (length (x .bytes)) (length (x .buffer)) .number) 0 ≡ false
+        → refusesPart (given f (before .state .ram) x .fed .ran .number) ≡ true
+    unfolding partOf openPart t
+    refused-first e = rw still-open (rw e (refuses-part g _ _ _ e))
+
+  -- where nothing refuses it before its first record
+  pub takes-if : (before .number ≡ 0
+      → partVerdict (feedAfter before bytes) (length (before .state .ram)) (length (x .bytes)) (length (x .buffer)) .number ≡ 0)
+      → Takes (feedAfter before bytes) (before .state .ram) x before after (bytes ++ x .bytes)
+  unfolding f
+  takes-if right =
+      ⊎-elim
+      (λ z. let done = eqb-true (before .number) 0 z in takes-all done (rw (still-open done) at (right done)))
+      (λ z. takes-nothing (eqb-false (before .number) 0 z))
+      (tested (eqb (before .number) 0))
+
+  pub takes : refusesPart (given (feedAfter before bytes) (before .state .ram) x .fed .ran .number) ≡ false
+      → Takes (feedAfter before bytes) (before .state .ram) x before after (bytes ++ x .bytes)
+  unfolding f
+  takes h =
+      takes-if (λ done. ⊎-elim
+      (λ r. rw (still-open done) (eqb-true _ 0 r))
+      (λ r. absurd (true≢false (sym (refused-first done r) ∙ h)))
+      (tested (eqb (partVerdict (g done) (length (before .state .ram)) (length (x .bytes)) (length (x .buffer)) .number) 0)))
+
+-- the feed after bytes is right, while it is open
+module _ (p : Panel) (whole : Whole p) (bytes : List ℕ) (done : traceRun p bytes .number ≡ 0) where
+  pub state-after : StateRight (feedAfter (traceRun p bytes) bytes)
+  state-after =
+      let r = traceRun p bytes in
+      let then = after-whole (wholeRecords bytes) p whole in
+      rw (eq-eqb (r .number) 0 done)
+      record {
+        left = then .left;
+        right = then .right;
+        few = omega (arith, cut-off-length bytes);
+        compared = compared-bound (r .answers);
+        differing = differing-compared (r .answers) (wholeRecords bytes);
+      }
+
+  -- and nothing refuses a part that is short, has room, and is countable in all
+  pub nothing-refuses : (x : Part) → length (x .bytes) ≤ 65536 → 2 * completedBy (length bytes % 4) (length (x .bytes)) ≤ length (x .buffer)
+      → (length bytes + length (x .bytes)) / 4 ≤ 4294967295
+      → let r = traceRun p bytes in partVerdict (feedAfter r bytes) (length (r .state .ram)) (length (x .bytes)) (length (x .buffer)) .number ≡ 0
+  nothing-refuses x short room countable =
+      let r = traceRun p bytes in
+      let all = run-ends panelTurn (front []) (wholeRecords bytes) p .done done in
+      let records = records-length (length bytes / 4) bytes in
+      let kept = cut-off-length bytes in
+      let image = after-whole (wholeRecords bytes) p whole .image in
+      right-part (feedAfter r bytes) _ _ _
+      record {
+        sizes = record { short = short; image = image; space = rw (eq-eqb (r .number) 0 done, kept) room };
+        countable = rw (eq-eqb (r .number) 0 done) (omega (arith, all, records, kept));
+        state = state-after;
+      }

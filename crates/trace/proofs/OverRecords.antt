@@ -1,0 +1,104 @@
+-- Runs over chip records, one after the other: the second begins at the panel that the first left, and together they are one run.
+use Prim.Native.Nat.{ℕ, _+_, _-_, _*_, _/_}
+use native.Mathlib.Omega.{arith}
+use mathlib.Core.Path.{_≡_, sym, ap, _∙_}
+use mathlib.Core.Bool.{true}
+use mathlib.Core.List.{List, [], _++_, append-nil}
+use lib.ListN.{length, take, drop, length-drop, drop-of-length-le}
+use Rattle.sed1520.specs.ChipRecord.{chipsBytes, panelIn, RecordsFit}
+use Rattle.sed1520.specs.Laws.{Whole}
+use Rattle.sed1520.specs.Panel.{Panel, panelRun}
+use Rattle.sed1520.specs.Records.{wholeRecords}
+use Rattle.sed1520.specs.declared.bus.Record.{Record}
+use Rattle.basics.proofs.Parts.{rest}
+use Rattle.sed1520.proofs.PanelLaws.{after-whole}
+use Rattle.sed1520.proofs.Records.{records-length, whole-records-join}
+use Rattle.sed1520.proofs.RecordsUndo.{left-passes, right-passes, two-fit}
+use Rattle.trace.specs.declared.Ran.{Ran}
+use Rattle.trace.specs.Replay.{ReplayOutcome, ended, endedBytes, InPlace, inPlace, ranOf, rewritten, overRecords}
+use Rattle.trace.proofs.InPlace.{panel-there}
+use Rattle.trace.proofs.Joined.{ended-all, ended-join, ended-cut}
+
+-- records that pass are rewritten to those of the panel
+rewritten-to : {chips ram : List ℕ} → RecordsFit chips ram → (p : Panel) → rewritten chips p ≡ chipsBytes (p .left) (p .right)
+rewritten-to fit p = rw (fit .left, fit .right)
+
+module _ {chips ram : List ℕ} (fit : RecordsFit chips ram) where
+  -- their panel is in range over the whole image
+  pub whole-panel : Whole (panelIn chips ram)
+  whole-panel =
+      record {
+        left = left-passes chips (fit .records) true (fit .left);
+        right = right-passes chips (fit .records) true (fit .right);
+        image = fit .image;
+      }
+
+  -- what a run over them leaves is its panel, and fits again where that is whole
+  module _ {i : InPlace Ran} (o : ReplayOutcome) (e : i ≡ overRecords chips o) where
+    pub over-panel : panelIn (i .chips) (i .ram) ≡ o .panel
+    over-panel = rw e (rw (rewritten-to fit (o .panel)) (panel-there (o .panel .left) (o .panel .right) (o .panel .ram)))
+
+    pub over-fit : Whole (o .panel) → RecordsFit (i .chips) (i .ram)
+    over-fit whole =
+        let p = o .panel in
+        rw e (rw (rewritten-to fit p) (two-fit (p .left) (p .right) (p .ram) (whole .left) (whole .right) (whole .image)))
+
+  module _ (rs qs : List Record) (buffer : List ℕ) where
+    abbrev first : ReplayOutcome
+    first = ended (panelRun (panelIn chips ram) rs) rs buffer
+
+    first-whole : Whole (first .panel)
+    unfolding ended
+    first-whole = after-whole rs (panelIn chips ram) whole-panel
+
+    module _ (i : InPlace Ran) (e : i ≡ overRecords chips first) where
+      pub fits-after : RecordsFit (i .chips) (i .ram)
+      fits-after = over-fit first e first-whole
+
+      pub first-cut : (i .answer .number ≡ 0 → ⊥) → i ≡ overRecords chips (ended (panelRun (panelIn chips ram) (rs ++ qs)) (rs ++ qs) buffer)
+      first-cut h = e ∙ ap (overRecords chips) (sym (ended-cut (panelIn chips ram) rs buffer qs (λ z. h (rw e z))))
+
+      -- the second run, on what the first left and the answers behind its own
+      pub both-run : (n : ℕ) → length rs ≡ n → i .answer .number ≡ 0 → (k : InPlace Ran)
+          → k ≡ overRecords (i .chips) (ended (panelRun (panelIn (i .chips) (i .ram)) qs) qs (drop (2 * n) (i .answers)))
+          → let a = i .answer in let b = k .answer in
+          inPlace (ranOf (b .number) (a .place + b .place) (a .compared + b .compared) (a .differing + b .differing)) (k .chips) (k .ram)
+          (take (2 * n) (i .answers) ++ k .answers)
+          ≡ overRecords chips (ended (panelRun (panelIn chips ram) (rs ++ qs)) (rs ++ qs) buffer)
+      both-run n all done k then =
+          let p = panelIn chips ram in
+          let at-zero : first .number ≡ 0 = rw e at done in
+          let many : first .place ≡ n = ended-all p rs buffer at-zero ∙ all in
+          let joined = ended-join p rs buffer qs at-zero in
+          let second = rw (over-panel first e, ap (λ (j : InPlace Ran). j .answers) e, ← many) at then in
+          let last = ended (panelRun (first .panel) qs) qs (drop (2 * first .place) (first .answers)) .panel in
+          rw joined (rw (second, rewritten-to fits-after last, rewritten-to fit last) (rw (← many) (rw e)))
+
+-- bytes in whole records and more behind them
+module _ {chips ram : List ℕ} (fit : RecordsFit chips ram) (bytes more buffer : List ℕ) (n : ℕ) (size : length bytes ≡ 4 * n)
+    {begun : Ran} {chips₁ ram₁ answers₁ : List ℕ}
+    (e : inPlace begun chips₁ ram₁ answers₁ ≡ overRecords chips (endedBytes (panelIn chips ram) bytes buffer)) where
+  abbrev all : ReplayOutcome
+  all = endedBytes (panelIn chips ram) (bytes ++ more) buffer
+
+  split : wholeRecords (bytes ++ more) ≡ wholeRecords bytes ++ wholeRecords more
+  split = whole-records-join bytes more (omega arith)
+
+  pub fits-behind : RecordsFit chips₁ ram₁
+  fits-behind = fits-after fit (wholeRecords bytes) [] buffer _ e
+
+  pub bytes-cut : (begun .number ≡ 0 → ⊥) → inPlace begun chips₁ ram₁ answers₁ ≡ overRecords chips all
+  bytes-cut h = rw split (first-cut fit (wholeRecords bytes) (wholeRecords more) buffer _ e h)
+
+  -- the answers behind lent as a part of the buffer
+  pub bytes-both : begun .number ≡ 0 → {next : Ran} {chips₂ ram₂ part : List ℕ} → let at = 2 * n in
+      inPlace next chips₂ ram₂ part
+      ≡ overRecords chips₁ (endedBytes (panelIn chips₁ ram₁) more (take (length answers₁ - at) (drop at answers₁)))
+      → inPlace (ranOf (next .number) (begun .place + next .place) (begun .compared + next .compared) (begun .differing + next .differing))
+      chips₂ ram₂ (take at answers₁ ++ (part ++ drop (length answers₁ - at) (drop at answers₁)))
+      ≡ overRecords chips all
+  bytes-both done then =
+      let past = drop-of-length-le (drop (2 * n) answers₁) {i = length answers₁ - 2 * n} (simp length-drop (omega arith)) in
+      let many : length (wholeRecords bytes) ≡ n = omega (arith, records-length (length bytes / 4) bytes) in
+      let second = rw (rest answers₁ (2 * n)) at then in
+      rw (past, append-nil, split) (both-run fit (wholeRecords bytes) (wholeRecords more) buffer _ e n many done _ second)

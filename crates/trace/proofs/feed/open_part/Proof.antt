@@ -1,0 +1,95 @@
+-- `trace::feed::open_part` meets its contract: numbers 1, 13 and 2, then the records.
+use native.Mathlib.Omega.{arith}
+use mathlib.Core.Path.{_≡_, ap}
+use lib.ListN.{length}
+use borrow.Author.Needs.{needs}
+use Rattle.trace.specs.Feed.{partVerdict}
+use Rattle.trace.specs.FeedInPlace.{feedIn}
+use Rattle.trace.specs.Replay.{InPlace}
+use Rattle.trace.specs.declared.Ran.{Ran}
+use Rattle.trace.proofs.Bounds.{ran-few}
+use Rattle.trace.proofs.FeedCases.{PartRight, part-right}
+use Rattle.trace.proofs.InPlace.{records-fit}
+use Rattle.trace.proofs.KeptOver.{joined-length}
+use Rattle.trace.proofs.PartCases.{part-refused, part-ran}
+use Rattle.trace.proofs.feed.open_part.Statement.{statement}
+use Rattle.trace.proofs.feed.open_part.Tie as tie
+
+-- the start, from past the tests; and what they told
+abbrev start : tie.After-part-verdict → tie.Start
+start c = c .before .before .before .before .before .before .before .before .before
+
+told : (c : tie.After-part-verdict) → let at = start c .args in
+    c .part-verdict .result
+    ≡ partVerdict (feedIn (at .chips .now) (at .progress)) (length (at .ram .now)) (length (at .part .now)) (length (at .answers .now))
+told c = rw (c .before .before .before .chips-in .ensures) at (c .part-verdict .ensures)
+
+-- the test, from past the records run
+abbrev test : tie.After-run-part → tie.Else1
+test c = c .before .before .before .before
+
+passed : (c : tie.Else1) → let at = start (c .before .before) .args in
+    PartRight (feedIn (at .chips .now) (at .progress)) (length (at .ram .now)) (length (at .part .now)) (length (at .answers .now))
+passed c = part-right _ _ _ _ (rw (told (c .before .before)) at (zero c))
+  where
+    zero : (c : tie.Else1) → c .before .before .part-verdict .result .number ≡ 0
+    zero c = omega arith
+
+returns : tie.Need-returns
+returns c =
+    let verdict = c .before .before .before in
+    rw (c .told-in-place .ensures) (part-refused _ _ _ _ _ (start verdict .pre) _ (told verdict) (c .before .if1 .taken))
+
+run-part-requires : tie.Need-run-part-requires
+run-part-requires c κs =
+    let else = c .before .before .before in
+    let right = passed else in (
+      records-fit _ _ (start (else .before .before) .pre) (right .state .left) (right .state .right) (right .sizes .image),
+      (right .state .few, (right .sizes .short, right .sizes .space)),
+    )
+
+moved-on-requires : tie.Need-moved-on-requires
+moved-on-requires c κs =
+    let ran = c .before .before .before .before .before .before in
+    let right = passed (test ran) in
+    let at = start (test ran .before .before) .args in
+    let few = ran-few _ _ _ (ap (λ (i : InPlace Ran). i .answer) (ran .run-part .ensures)) in
+    let state = right .state in
+    let bytes = joined-length (at .progress) (state .few) (at .part .now) in (
+      state .few,
+      (
+        right .sizes .short,
+        (
+          omega (arith, few .place-few, bytes, right .countable),
+          (
+            omega (arith, few .compared-few, bytes, right .countable, state .compared),
+            omega (arith, few .differing-few, bytes, right .countable, state .compared, state .differing),
+          ),
+        ),
+      ),
+    )
+
+returns-2 : tie.Need-returns-2
+returns-2 c =
+    let ran = c .before .before .before .before .before .before .before .before .before in
+    let verdict = test ran .before .before in
+    rw (c .told-in-place2 .ensures)
+    (part-ran _ _ _ _ _ (start verdict .pre) _ (told verdict) (omega arith) _ (ran .run-part .ensures) _ (c .before .before .moved-on .ensures))
+
+pub open-part-spec : {M : Type 1} → statement M
+open-part-spec =
+    tie.close
+    (tie.spec
+    (λ c κs. search needs)
+    (λ c κs. search needs)
+    (λ c κs. search needs)
+    (λ c. search needs)
+    returns
+    run-part-requires
+    moved-on-requires
+    (λ c. search needs)
+    (λ c κs. search needs)
+    (λ c. search needs)
+    (λ c. search needs)
+    (λ c. search needs)
+    returns-2)

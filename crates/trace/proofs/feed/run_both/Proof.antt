@@ -1,0 +1,99 @@
+-- `trace::feed::run_both` meets its contract: the second run begins where the first led.
+use native.Mathlib.Omega.{arith}
+use Prim.Native.Nat.{_/_}
+use mathlib.Core.Path.{ap, _∙_}
+use mathlib.Core.List.{[]}
+use lib.ListN.{length, length-take, length-drop}
+use borrow.Author.Needs.{needs}
+use Rattle.trace.specs.declared.Ran.{Ran}
+use Rattle.trace.specs.Replay.{InPlace}
+use Rattle.trace.proofs.Bounds.{Few, ran-few}
+use Rattle.trace.proofs.OverRecords.{fits-behind, bytes-cut, bytes-both}
+use Rattle.trace.proofs.feed.run_both.Statement.{statement}
+use Rattle.trace.proofs.feed.run_both.Tie as tie
+
+-- the first run, from past its test and the buffers that it was lent; the start, from there
+abbrev ran : tie.After-struct-known → tie.After-run
+ran c = c .before .before .before .before .before .before .before
+
+abbrev start : tie.After-run → tie.Start
+start c = c .before .before .before .before .before .before .before .before .before
+
+-- the second run, from past it; and the test before it
+abbrev ran-on : tie.After-struct-known2 → tie.After-run2
+ran-on c = c .before .before .before .before .before .before .before
+
+abbrev passed : tie.After-run2 → tie.Else1
+passed c = c .before .before .before .before
+
+returns : tie.Need-returns
+returns c =
+    let first = ran (c .before) in
+    bytes-cut (start first .pre .0) _ _ _ 1 (start first .pre .1 .0) (first .run .ensures) (c .if1 .taken)
+
+run-requires-2 : tie.Need-run-requires-2
+run-requires-2 c κs =
+    let first = ran (c .before .before .before .before) in
+    let given = start first .pre in
+    let fit = fits-behind (given .0) _ [] _ 1 (given .1 .0) (first .run .ensures) in
+    (fit, (simp (length-take, length-drop) (omega (arith, given .1 .1 .1)), given .1 .1 .0))
+
+-- the counts of both runs are few
+first-few : (c : tie.After-run) → let r = c .run .result in Few (length (start c .args .first .now) / 4) (r .place) (r .compared) (r .differing)
+first-few c = ran-few _ _ _ (ap (λ (i : InPlace Ran). i .answer) (c .run .ensures))
+
+next-few : (c : tie.After-run2) → let r = c .run2 .result in
+    Few (length (start (ran (passed c .before)) .args .rest .now) / 4) (r .place) (r .compared) (r .differing)
+next-few c = ran-few _ _ _ (ap (λ (i : InPlace Ran). i .answer) (c .run2 .ensures))
+
+add-t23 : tie.Need-add-t23
+add-t23 c =
+    let next = ran-on (c .before) in
+    let first = ran (passed next .before) in
+    omega (arith, first-few first .place-few, next-few next .place-few, start first .pre .1 .0, start first .pre .1 .1 .0)
+
+add-t24 : tie.Need-add-t24
+add-t24 c =
+    let next = ran-on (c .before .before .before) in
+    let first = ran (passed next .before) in
+    omega (arith, first-few first .compared-few, next-few next .compared-few, start first .pre .1 .0, start first .pre .1 .1 .0)
+
+add-t25 : tie.Need-add-t25
+add-t25 c =
+    let next = ran-on (c .before .before .before .before .before) in
+    let first = ran (passed next .before) in
+    omega (arith, first-few first .differing-few, next-few next .differing-few, start first .pre .1 .0, start first .pre .1 .1 .0)
+
+-- neither run changes a length
+same-length-4 : tie.Need-same-length-4
+same-length-4 c = let next = ran-on (c .before .before .before .before .before) in next .run2 .kept .0 ∙ ran (passed next .before) .run .kept .0
+
+same-length-5 : tie.Need-same-length-5
+same-length-5 c = let next = ran-on (c .before .before .before .before .before) in next .run2 .kept .1 .0 ∙ ran (passed next .before) .run .kept .1 .0
+
+returns-2 : tie.Need-returns-2
+returns-2 c =
+    let next = ran-on (c .before .before .before .before .before) in
+    let first = ran (passed next .before) in
+    bytes-both (start first .pre .0) _ _ _ 1 (start first .pre .1 .0) (first .run .ensures) (omega arith) (next .run2 .ensures)
+
+pub run-both-spec : {M : Type 1} → statement M
+run-both-spec =
+    tie.close
+    (tie.spec
+    (λ c κs. search needs)
+    (λ c. search needs)
+    (λ c. search needs)
+    (λ c. search needs)
+    returns
+    (λ c. search needs)
+    (λ c. search needs)
+    (λ c. search needs)
+    run-requires-2
+    add-t23
+    add-t24
+    add-t25
+    same-length-4
+    same-length-5
+    (λ c. search needs)
+    returns-2)

@@ -1,0 +1,179 @@
+-- The feed of request C-11: a trace taken in parts. The bytes kept over and a part behind them are run as a replay runs a trace; what is left past
+-- their last whole record is kept over for the next part.
+use Prim.Native.Nat.{ℕ, _+_, _*_, _/_}
+use mathlib.Core.Bool.{Bool, not, _||_}
+use mathlib.Core.List.{List, [], _∷_, _++_}
+use lib.Dec.{ltb, eqb}
+use lib.ListN.{length, getD, take, drop}
+use Rattle.basics.specs.Choice.{if}
+use Rattle.sed1520.specs.Chip.{inRange}
+use Rattle.sed1520.specs.Panel.{panelOf}
+use Rattle.sed1520.specs.Verdict.{verdict, unless}
+use Rattle.sed1520.specs.declared.registers.Chip.{Chip}
+use Rattle.sed1520.specs.declared.verdict.Verdict.{Verdict}
+use Rattle.trace.specs.Replay.{ReplayOutcome, endedBytes, sizesWrong, ranOf, ranAs}
+use Rattle.trace.specs.declared.Ran.{Ran}
+use Rattle.trace.specs.declared.progress.Ending.{Ending}
+use Rattle.trace.specs.declared.progress.Ending.the-variants.{Open, Stopped}
+use Rattle.trace.specs.declared.progress.Progress.{Progress}
+use Rattle.trace.specs.declared.feed.Feed.{Feed}
+use Rattle.trace.specs.declared.feed.Fed.{Fed}
+
+-- bytes to keep over, at most three, with counts and whether the feed still takes parts
+abbrev pub keeping : List ℕ → ℕ → ℕ → ℕ → Ending → Progress
+keeping rest records compared differing ending =
+    record {
+      kept = length rest;
+      first = getD rest 0 0;
+      second = getD rest 1 0;
+      third = getD rest 2 0;
+      records = records;
+      compared = compared;
+      differing = differing;
+      ending = ending;
+    }
+
+-- nothing taken yet
+abbrev pub begun : Ending → Progress
+begun ending = keeping [] 0 0 0 ending
+
+-- stopped with a number and a place, all else as it was
+abbrev pub stoppedAt : ℕ → ℕ → Progress → Progress
+stoppedAt n at t =
+    record {
+      kept = t .kept;
+      first = t .first;
+      second = t .second;
+      third = t .third;
+      records = t .records;
+      compared = t .compared;
+      differing = t .differing;
+      ending = Stopped n at;
+    }
+
+-- the bytes kept over
+abbrev pub keptBytes : Progress → List ℕ
+keptBytes t = take (t .kept) (t .first ∷ t .second ∷ t .third ∷ [])
+
+-- the bytes kept over and the part after them
+abbrev pub joinedTo : Progress → List ℕ → List ℕ
+joinedTo t part = keptBytes t ++ part
+
+-- the bytes past the last whole record
+abbrev pub cutOff : List ℕ → List ℕ
+cutOff bytes = drop (4 * (length bytes / 4)) bytes
+
+-- how many records a part of a length completes, the bytes kept over included
+abbrev pub completedBy : ℕ → ℕ → ℕ
+completedBy kept part = (kept + part) / 4
+
+-- the most records that a feed may take
+abbrev pub mostRecords : ℕ
+mostRecords = 4294967295
+
+-- number 13: more records in all than that
+abbrev pub tooMany : ℕ → ℕ → Bool
+tooMany records more = ltb mostRecords (records + more)
+
+-- number 2 at place 3: over 3 bytes kept, compared above records, differing above compared
+unfoldable pub progressWrong : Progress → Bool
+progressWrong t = ltb 3 (t .kept) || (ltb (t .records) (t .compared) || ltb (t .compared) (t .differing))
+
+-- both chips and what was taken so far are a feed
+abbrev pub feedOf : Chip → Chip → Progress → Feed
+feedOf left right t = record { left = left; right = right; progress = t }
+
+-- number 2 of a feed, or 0: the left chip, the right one, then place 3
+unfoldable pub stateVerdict : Feed → Verdict
+stateVerdict f = unless (λ c. not (inRange c)) 2 (f .left) (f .right) (if (progressWrong (f .progress)) (verdict 2 3) (verdict 0 0))
+
+-- what a part is refused by before its first record, by the lengths of image, part and answers: numbers 1, 13 and 2, or 0
+unfoldable pub partVerdict : Feed → ℕ → ℕ → ℕ → Verdict
+partVerdict f ram part answers =
+    let more = completedBy (f .progress .kept) part in
+    if (sizesWrong part more ram answers) (verdict 1 0)
+    (if (tooMany (f .progress .records) more) (verdict 13 0)
+    (stateVerdict f))
+
+-- a number and its place with the counts so far
+abbrev pub soFar : Progress → ℕ → ℕ → Ran
+soFar t n at = ranOf n at (t .compared) (t .differing)
+
+-- what a call gives back beside the next feed, and that feed
+abbrev pub fedOf : Ran → Feed → Fed
+fedOf ran f = record { ran = ran; feed = f }
+
+-- a feed with a number, its place and the feed's counts so far
+abbrev pub fedWith : Feed → ℕ → ℕ → Fed
+fedWith f n at = fedOf (soFar (f .progress) n at) f
+
+-- the opening: stopped with number 2 where a chip is out of range
+unfoldable pub openOf : Chip → Chip → Fed
+openOf left right =
+    let v = stateVerdict (feedOf left right (begun Open)) in
+    if (eqb (v .number) 0) (fedWith (feedOf left right (begun Open)) 0 0)
+    (fedWith (feedOf left right (begun (Stopped (v .number) (v .place)))) (v .number) (v .place))
+
+-- a stopped feed repeats its number and place, before any other test; an open one goes on
+abbrev pub unlessStopped : {A : Type 0} → Ending → (ℕ → ℕ → A) → A → A
+unlessStopped Open repeat go = go
+unlessStopped (Stopped n at) repeat go = repeat n at
+
+-- what a call gives back, and the image and the answers afterwards
+pub record PartOutcome : Type 0 where
+  pub fed : Fed
+  pub ram : List ℕ
+  pub answers : List ℕ
+
+-- all of it as one value
+abbrev pub partOutcome : Fed → List ℕ → List ℕ → PartOutcome
+partOutcome fed ram answers = record { fed = fed; ram = ram; answers = answers }
+
+-- the part not taken: the feed, the image and the answer buffer as they came
+abbrev pub notTaken : Feed → List ℕ → List ℕ → ℕ → ℕ → PartOutcome
+notTaken f ram answers n at = partOutcome (fedWith f n at) ram answers
+
+-- the counts gone on by those of a run, with the bytes to keep over
+abbrev pub countedOn : Progress → Ran → List ℕ → Ending → Progress
+countedOn t ran rest ending = keeping rest (t .records + ran .place) (t .compared + ran .compared) (t .differing + ran .differing) ending
+
+-- how records run on a feed's bytes move it on: done, what is left past them is kept over; refused, nothing is, and the feed is stopped
+unfoldable pub movedOn : Progress → List ℕ → Ran → Progress
+movedOn t bytes ran =
+    if (eqb (ran .number) 0) (countedOn t ran (cutOff bytes) Open) (countedOn t ran [] (Stopped (ran .number) (t .records + ran .place)))
+
+-- the records of a part, run: place and counts are told from the opening
+abbrev pub tookPart : Feed → List ℕ → ReplayOutcome → PartOutcome
+tookPart f bytes o =
+    let t = movedOn (f .progress) bytes (ranAs o) in
+    partOutcome (fedWith (feedOf (o .panel .left) (o .panel .right) t) (o .number) (t .records)) (o .panel .ram) (o .answers)
+
+-- a part given to a feed that is open: numbers 1, 13 and 2, then the records
+unfoldable pub openPart : Feed → List ℕ → List ℕ → List ℕ → PartOutcome
+openPart f ram part answers =
+    let v = partVerdict f (length ram) (length part) (length answers) in
+    let bytes = joinedTo (f .progress) part in
+    if (eqb (v .number) 0)
+    (tookPart f bytes (endedBytes (panelOf (f .left) (f .right) ram) bytes answers))
+    (notTaken f ram answers (v .number) (v .place))
+
+-- a part given to a feed
+unfoldable pub partOf : Feed → List ℕ → List ℕ → List ℕ → PartOutcome
+partOf f ram part answers = unlessStopped (f .progress .ending) (notTaken f ram answers) (openPart f ram part answers)
+
+-- stopped with a number at the records since the opening
+abbrev pub stoppedWith : Feed → ℕ → Fed
+stoppedWith f n =
+    let t = f .progress in
+    fedWith (feedOf (f .left) (f .right) (stoppedAt n (t .records) t)) n (t .records)
+
+-- the closing of a feed that is open: number 2, which leaves it open; then 3 where bytes are kept over, else 0. The count of records has 32 bits, so
+-- number 13 has no cause here
+unfoldable pub openClose : Feed → Fed
+openClose f =
+    let v = stateVerdict f in
+    if (eqb (v .number) 0) (stoppedWith f (if (eqb (f .progress .kept) 0) 0 3)) (fedWith f (v .number) (v .place))
+
+-- the closing: the feed is then stopped
+unfoldable pub closeOf : Feed → Fed
+closeOf f = unlessStopped (f .progress .ending) (fedWith f) (openClose f)

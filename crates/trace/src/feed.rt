@@ -1,0 +1,315 @@
+// A feed: a trace taken in parts, as a recorder hands them over. A record that the end of a part cuts is kept over and
+// goes on with the next part.
+ghost use Prim.Native.Nat.{_+_, _*_, _/_, _≤_};
+ghost use mathlib.Core.Path.{_≡_};
+ghost use mathlib.Core.List.{_++_};
+ghost use lib.ListN.{length};
+ghost use Rattle.basics.specs.Choice.{if};
+ghost use Rattle.sed1520.specs.ChipRecord.{panelIn, RecordsFit};
+ghost use Rattle.sed1520.specs.Verdict.{verdict};
+ghost use Rattle.trace.specs.Replay.{inPlace, endedBytes, overRecords};
+ghost use Rattle.trace.specs.Feed.{joinedTo, completedBy, tooMany, progressWrong, feedOf, stateVerdict, partVerdict, fedWith};
+ghost use Rattle.trace.specs.Feed.{openOf, partOutcome, openPart, partOf, stoppedWith, openClose, closeOf};
+ghost use Rattle.trace.specs.FeedInPlace.{fedInPlace, feedIn, asRecords, partInPlace};
+use crate::ANSWER_BYTES;
+use crate::RECORD_BYTES;
+use crate::Ran;
+use crate::progress::Ending;
+use crate::progress::Progress;
+use crate::ran_nothing;
+use crate::run;
+use crate::sizes_wrong;
+use sed1520::chip_record::CHIPS_BYTES;
+use sed1520::chip_record::chips_bytes;
+use sed1520::chip_record::chips_in;
+use sed1520::registers::Chip;
+use sed1520::verdict::Verdict;
+
+// The most records that a feed may take.
+pub const MAX_RECORDS: u64 = 4294967295;
+
+// Both chips and what was taken so far.
+pub struct Feed {
+    pub left: Chip,
+    pub right: Chip,
+    pub progress: Progress,
+}
+
+// What each call gives back: number, place and the counts so far; and the next feed.
+pub struct Fed {
+    pub ran: Ran,
+    pub feed: Feed,
+}
+
+// The same of a part given over chip records, which are rewritten.
+pub struct FedInPlace {
+    pub ran: Ran,
+    pub progress: Progress,
+}
+
+// How many records a part completes, the bytes kept over included.
+fn completed(kept: u8, part: usize) -> usize
+    ensures { λ r. ⌜ r ≡ completedBy kept part ⌝ }
+{
+    part / RECORD_BYTES + ((kept as usize) + part % RECORD_BYTES) / RECORD_BYTES
+}
+
+// Number 13: more records in all than a feed may take.
+fn too_many(records: u32, more: usize) -> bool
+    requires { ⌜ more ≤ 65536 ⌝ }
+    ensures { λ r. ⌜ r ≡ tooMany records more ⌝ }
+{
+    MAX_RECORDS < (records as u64) + (more as u64)
+}
+
+// Number 2 at place 3, or 0.
+fn progress_verdict(progress: Progress) -> Verdict
+    ensures { λ r. ⌜ r ≡ if (progressWrong progress) (verdict 2 3) (verdict 0 0) ⌝ }
+{
+    if progress.wrong() {
+        return Verdict::new(2, 3);
+    }
+    Verdict::new(0, 0)
+}
+
+// Number 2, or 0: the left chip, the right one, then place 3.
+fn state_verdict(left: Chip, right: Chip, progress: Progress) -> Verdict
+    ensures { λ r. ⌜ r ≡ stateVerdict (feedOf left right progress) ⌝ }
+{
+    let own = progress_verdict(progress);
+    Verdict::unless(!left.in_range(), !right.in_range(), 2, own)
+}
+
+// Numbers 1, 13 and 2 of a part, or 0.
+fn part_verdict(feed: Feed, ram: usize, part: usize, answers: usize) -> Verdict
+    ensures { λ r. ⌜ r ≡ partVerdict feed ram part answers ⌝ }
+{
+    let progress = feed.progress;
+    let more = completed(progress.kept, part);
+    if sizes_wrong(part, more, ram, answers) {
+        return Verdict::new(1, 0);
+    }
+    if too_many(progress.records, more) {
+        return Verdict::new(13, 0);
+    }
+    let left = feed.left;
+    let right = feed.right;
+    state_verdict(left, right, progress)
+}
+
+// The records that a part completes, the first of them with the bytes kept over.
+fn run_part(
+    chips: &mut [u8],
+    progress: Progress,
+    ram: &mut [u8],
+    part: &[u8],
+    answers: &mut [u8],
+) -> Ran
+    requires { ⌜ RecordsFit (now chips) (now ram) ⌝ }
+    requires { ⌜ progress .kept ≤ 3 ⌝ }
+    requires { ⌜ length (now part) ≤ 65536 ⌝ }
+    requires { ⌜ 2 * completedBy (progress .kept) (length (now part)) ≤ length (now answers) ⌝ }
+    ensures { λ r. ⌜ inPlace r (now (chips .exit)) (now (ram .exit)) (now (answers .exit))
+        ≡ overRecords (now (chips .entry))
+        (endedBytes (panelIn (now (chips .entry)) (now (ram .entry))) (joinedTo progress (now (part .entry))) (now (answers .entry))) ⌝ }
+{
+    let kept = progress.kept as usize;
+    if kept == 0 {
+        return run(chips, ram, part, answers);
+    }
+    if kept + part.len() < RECORD_BYTES {
+        return ran_nothing(0, 0);
+    }
+    let first = [
+        progress.byte_at(part, 0),
+        progress.byte_at(part, 1),
+        progress.byte_at(part, 2),
+        progress.byte_at(part, 3),
+    ];
+    run_both(chips, ram, &first, &part[RECORD_BYTES - kept..], answers)
+}
+
+// A record and a trace behind it, as one trace.
+fn run_both(chips: &mut [u8], ram: &mut [u8], first: &[u8], rest: &[u8], answers: &mut [u8]) -> Ran
+    requires { ⌜ RecordsFit (now chips) (now ram) ⌝ }
+    requires { ⌜ length (now first) ≡ 4 ⌝ }
+    requires { ⌜ length (now rest) ≤ 65536 ⌝ }
+    requires { ⌜ 2 + 2 * (length (now rest) / 4) ≤ length (now answers) ⌝ }
+    ensures { λ r. ⌜ inPlace r (now (chips .exit)) (now (ram .exit)) (now (answers .exit))
+        ≡ overRecords (now (chips .entry))
+        (endedBytes (panelIn (now (chips .entry)) (now (ram .entry))) (now (first .entry) ++ now (rest .entry)) (now (answers .entry))) ⌝ }
+{
+    let begun = run(chips, ram, first, answers);
+    if begun.number != 0 {
+        return begun;
+    }
+    let next = run(chips, ram, rest, &mut answers[ANSWER_BYTES..]);
+    Ran {
+        number: next.number,
+        place: begun.place + next.place,
+        compared: begun.compared + next.compared,
+        differing: begun.differing + next.differing,
+    }
+}
+
+// A part given to a feed whose chips lie as records, which are rewritten, and the image of both chips: two answer bytes for
+// each record that the part completes.
+pub fn part_in_place(
+    chips: &mut [u8],
+    progress: Progress,
+    ram: &mut [u8],
+    part: &[u8],
+    answers: &mut [u8],
+) -> FedInPlace
+    ensures { λ r. ⌜ inPlace r (now (chips .exit)) (now (ram .exit)) (now (answers .exit))
+        ≡ partInPlace (now (chips .entry)) progress (now (ram .entry)) (now (part .entry)) (now (answers .entry)) ⌝ }
+{
+    if chips.len() != CHIPS_BYTES {
+        return told_in_place(progress, 1, 0);
+    }
+    let ending = progress.ending;
+    match ending {
+        Ending::Stopped(number, place) => told_in_place(progress, number, place as u64),
+        Ending::Open => open_part(chips, progress, ram, part, answers),
+    }
+}
+
+// A number and its place with the counts so far, and the progress that holds them.
+fn told_in_place(progress: Progress, number: u8, place: u64) -> FedInPlace
+    ensures { λ r. ⌜ r ≡ fedInPlace progress number place ⌝ }
+{
+    let ran = progress.so_far(number, place);
+    FedInPlace { ran, progress }
+}
+
+// A part given to a feed that is open: numbers 1, 13 and 2, then the records.
+fn open_part(
+    chips: &mut [u8],
+    progress: Progress,
+    ram: &mut [u8],
+    part: &[u8],
+    answers: &mut [u8],
+) -> FedInPlace
+    requires { ⌜ length (now chips) ≡ 24 ⌝ }
+    ensures { λ r. ⌜ inPlace r (now (chips .exit)) (now (ram .exit)) (now (answers .exit))
+        ≡ asRecords (now (chips .entry))
+        (openPart (feedIn (now (chips .entry)) progress) (now (ram .entry)) (now (part .entry)) (now (answers .entry))) ⌝ }
+{
+    let both = chips_in(chips);
+    let left = both.left;
+    let right = both.right;
+    let feed = Feed {
+        left,
+        right,
+        progress,
+    };
+    let verdict = part_verdict(feed, ram.len(), part.len(), answers.len());
+    if verdict.number != 0 {
+        return told_in_place(progress, verdict.number, verdict.place);
+    }
+    let ran = run_part(chips, progress, ram, part, answers);
+    let next = progress.moved_on(part, ran);
+    told_in_place(next, ran.number, next.records as u64)
+}
+
+impl Feed {
+    // A feed on two chips; stopped with number 2 where one of them is out of range.
+    pub fn open(left: Chip, right: Chip) -> Fed
+        ensures { λ r. ⌜ r ≡ openOf left right ⌝ }
+    {
+        let progress = Progress::begun(Ending::Open);
+        let verdict = state_verdict(left, right, progress);
+        if verdict.number != 0 {
+            let feed = Feed {
+                left,
+                right,
+                progress: Progress::begun(Ending::Stopped(verdict.number, verdict.place as u32)),
+            };
+            return told(feed, verdict.number, verdict.place);
+        }
+        let feed = Feed {
+            left,
+            right,
+            progress,
+        };
+        told(feed, 0, 0)
+    }
+
+    // The next part of the trace, over the image of both chips: two answer bytes for each record that it completes.
+    pub fn part(self, ram: &mut [u8], part: &[u8], answers: &mut [u8]) -> Fed
+        ensures { λ r. ⌜ partOutcome r (now (ram .exit)) (now (answers .exit))
+            ≡ partOf self (now (ram .entry)) (now (part .entry)) (now (answers .entry)) ⌝ }
+    {
+        let left = self.left;
+        let right = self.right;
+        let progress = self.progress;
+        let mut chips = chips_bytes(left, right);
+        let went = part_in_place(&mut chips, progress, ram, part, answers);
+        let both = chips_in(&chips);
+        let next_left = both.left;
+        let next_right = both.right;
+        let next = went.progress;
+        let ran = went.ran;
+        let feed = Feed {
+            left: next_left,
+            right: next_right,
+            progress: next,
+        };
+        Fed { ran, feed }
+    }
+
+    // The end of the trace: number 3 where bytes are kept over. The feed is then stopped.
+    pub fn close(self) -> Fed
+        ensures { λ r. ⌜ r ≡ closeOf self ⌝ }
+    {
+        let progress = self.progress;
+        let ending = progress.ending;
+        match ending {
+            Ending::Stopped(number, place) => told(self, number, place as u64),
+            Ending::Open => open_close(self),
+        }
+    }
+}
+
+// The closing of a feed that is open: number 2, then 3 or 0.
+fn open_close(feed: Feed) -> Fed
+    ensures { λ r. ⌜ r ≡ openClose feed ⌝ }
+{
+    let left = feed.left;
+    let right = feed.right;
+    let progress = feed.progress;
+    let verdict = state_verdict(left, right, progress);
+    if verdict.number != 0 {
+        return told(feed, verdict.number, verdict.place);
+    }
+    if progress.kept == 0 {
+        return stopped(feed, 0);
+    }
+    stopped(feed, 3)
+}
+
+// A feed stopped with a number at the records since its opening.
+fn stopped(feed: Feed, number: u8) -> Fed
+    ensures { λ r. ⌜ r ≡ stoppedWith feed number ⌝ }
+{
+    let left = feed.left;
+    let right = feed.right;
+    let progress = feed.progress;
+    let records = progress.records;
+    let next = progress.stopped(number, records);
+    let after = Feed {
+        left,
+        right,
+        progress: next,
+    };
+    told(after, number, records as u64)
+}
+
+// A feed with a number, its place and the feed's counts so far.
+fn told(feed: Feed, number: u8, place: u64) -> Fed
+    ensures { λ r. ⌜ r ≡ fedWith feed number place ⌝ }
+{
+    let progress = feed.progress;
+    let ran = progress.so_far(number, place);
+    Fed { ran, feed }
+}
