@@ -1,16 +1,24 @@
 /*
  * Times the archive against the plain implementation: each record of a full trace (16,384 records),
- * each frame, each repaint. Both get the same bytes. The jobs are gone through in rounds, and within a
+ * each frame, each repaint; and the archive's feed, in parts of several lengths, against its own replay
+ * of the same trace. Both sides get the same bytes. The jobs are gone through in rounds, and within a
  * job the two take turns, so that all see the same machine; the best turn of each counts.
  *
- * Usage: bench [LIMIT]: fails where a ratio of a replay or a frame is over LIMIT.
+ * Usage: bench [LIMIT [FEED_LIMIT]]: fails where a ratio of a replay or a frame is over LIMIT, or that of
+ * a feed in parts of 512 bytes or more over FEED_LIMIT; - is no limit.
  */
 #define _POSIX_C_SOURCE 199309L
 #include "../test/support.h"
 
 #include <time.h>
 
-enum { ROUNDS = 200, TURNS_A_ROUND = 5, CALLS_A_TURN = 128, ARCHIVE = 0, PLAIN = 1 };
+enum { ROUNDS = 200, TURNS_A_ROUND = 5, CALLS_A_TURN = 128, MOST_JOBS = 32 };
+
+/* The two sides of a job: of a feed the archive's feed and the archive's replay. */
+enum { ARCHIVE, PLAIN, FED = ARCHIVE, REPLAYED = PLAIN };
+
+/* Which limit a job's ratio is held to. */
+enum { LIMIT, FEED_LIMIT, LIMITS, NO_LIMIT = LIMITS };
 
 static double now_ns(void)
 {
@@ -19,16 +27,24 @@ static double now_ns(void)
     return (double)t.tv_sec * 1e9 + (double)t.tv_nsec;
 }
 
-/* Something that both do, and the best time of each. */
+/* Something that both sides do, and the best time of each. */
 struct job {
-    const char *name;
-    const char *unit;
-    bool limited;       /* LIMIT is for it */
+    const char *name, *unit;
+    const char *side[2];
+    unsigned limit;
     size_t place;       /* the answer's, done */
     double (*turn)(const struct job *, unsigned side, uint64_t *answer);
-    const void *input;  /* struct load or struct painting, as turn takes it */
+    const void *input;  /* struct load, struct painting or struct feeding, as turn takes it */
     double best[2];
 };
+
+static struct job jobs[MOST_JOBS];
+static size_t job_count;
+
+static void add(struct job job)
+{
+    jobs[job_count++] = job;
+}
 
 /* What a turn of either has written, as the turn lays it out. */
 static uint8_t written[2][CHIPS + RAM + 2 * RECORDS_MAX];
@@ -69,17 +85,25 @@ struct load {
 };
 
 /* Restores chips and RAM and clears the answers, outside of the timed part. */
+static void restore(const struct load *load, uint8_t *out)
+{
+    memcpy(out, load->chips, CHIPS);
+    memcpy(out + CHIPS, load->ram, RAM);
+    memset(out + CHIPS + RAM, 0, 2 * RECORDS_MAX);
+}
+
+static double time_replay(replay_call *replay, const struct load *load, uint8_t *out, uint64_t *answer)
+{
+    uint8_t *ram = out + CHIPS, *answers = ram + RAM;
+    restore(load, out);
+    double start = now_ns();
+    *answer = replay(out, CHIPS, ram, RAM, load->trace.bytes, load->trace.len, answers, 2 * RECORDS_MAX);
+    return (now_ns() - start) / RECORDS_MAX;
+}
+
 static double replay_turn(const struct job *job, unsigned side, uint64_t *answer)
 {
-    replay_call *const replay = side == ARCHIVE ? pedralume_replay : plain_replay;
-    const struct load *load = job->input;
-    uint8_t *chips = written[side], *ram = chips + CHIPS, *answers = ram + RAM;
-    memcpy(chips, load->chips, CHIPS);
-    memcpy(ram, load->ram, RAM);
-    memset(answers, 0, 2 * RECORDS_MAX);
-    double start = now_ns();
-    *answer = replay(chips, CHIPS, ram, RAM, load->trace.bytes, load->trace.len, answers, 2 * RECORDS_MAX);
-    return (now_ns() - start) / RECORDS_MAX;
+    return time_replay(side == ARCHIVE ? pedralume_replay : plain_replay, job->input, written[side], answer);
 }
 
 /* Pages painted one after the other, as firmware does: page, column, 61 data writes. */
@@ -112,15 +136,71 @@ static void fill_mixed(struct load *load, struct rng *g)
     settle_reads(&load->trace, g, load->chips, load->ram);
 }
 
-static struct job replay_job(const char *name, struct load *load, void (*fill)(struct load *, struct rng *))
+static void add_replay(const char *name, struct load *load, void (*fill)(struct load *, struct rng *))
 {
     static const uint8_t fresh[CHIPS] = { PEDRALUME_FRESH_CHIP, PEDRALUME_FRESH_CHIP };
     struct rng g = { 1520 };
     memcpy(load->chips, fresh, CHIPS);
     random_bytes(&g, load->ram, RAM);
     fill(load, &g);
-    return (struct job){ name, "record", true, RECORDS_MAX, replay_turn, load, { 0, 0 } };
+    add((struct job){ name, "record", { "archive", "plain" }, LIMIT, RECORDS_MAX, replay_turn, load, { 0, 0 } });
 }
+
+#ifdef WITH_FEED
+
+/* ---- feeds ---- */
+
+struct feeding {
+    const struct load *load;
+    size_t part;
+};
+
+/* The calls with the parts, from the first to the last; opened before, untimed. */
+static double time_parts(const struct feeding *f, uint8_t *feed, uint8_t *ram, uint8_t *answers, uint64_t *answer)
+{
+    const struct trace *t = &f->load->trace;
+    size_t given = 0;
+    double start = now_ns();
+    for (size_t at = 0; at < t->len; at += f->part) {
+        size_t len = t->len - at < f->part ? t->len - at : f->part;
+        *answer = pedralume_feed_part(feed, FEED, ram, RAM, t->bytes + at, len, answers + 2 * given, 2 * (RECORDS_MAX - given));
+        given = pedralume_feed_place(*answer);
+    }
+    return (now_ns() - start) / RECORDS_MAX;
+}
+
+/* The feed's answer as replay packs it, and its chips where replay has them, so that the two can be compared. */
+static double feed_turn(const struct job *job, unsigned side, uint64_t *answer)
+{
+    const struct feeding *f = job->input;
+    uint8_t feed[FEED], *chips = written[side], *ram = chips + CHIPS, *answers = ram + RAM;
+    if (side == REPLAYED)
+        return time_replay(pedralume_replay, f->load, written[side], answer);
+    restore(f->load, written[side]);
+    pedralume_feed_open(feed, FEED, chips, CHIPS);
+    double took = time_parts(f, feed, ram, answers, answer);
+    memcpy(chips, feed, CHIPS);
+    *answer = answer_of(pedralume_number(*answer), pedralume_feed_place(*answer), (unsigned)pedralume_feed_compared(feed),
+                        (unsigned)pedralume_feed_differing(feed));
+    return took;
+}
+
+static void add_feeds(const char *const names[4], const struct load *load)
+{
+    static const size_t part[4] = { 4, 7, 512, TRACE_MAX };
+    static struct feeding feedings[MOST_JOBS];
+    for (unsigned i = 0; i < 4; i++) {
+        struct feeding *f = &feedings[job_count];
+        *f = (struct feeding){ load, part[i] };
+        add((struct job){ names[i], "record", { "feed", "replay" }, part[i] < 512 ? NO_LIMIT : FEED_LIMIT, RECORDS_MAX,
+                          feed_turn, f, { 0, 0 } });
+    }
+}
+
+#define FEED_NAMES(trace) \
+    ((const char *const[4]){ "feed by 4, " trace, "feed by 7, " trace, "feed by 512, " trace, "feed by 65536, " trace })
+
+#endif
 
 /* ---- frames and repaints ---- */
 
@@ -164,14 +244,14 @@ static struct painting frames[] = {
     { .chips = { SWITCHES(0, 0, 1, 0, 5), SWITCHES(0, 0, 1, 1, 18) } },
 };
 
-static struct job frame_job(const char *name, struct painting *p)
+static void add_frame(const char *name, struct painting *p)
 {
     p->call[ARCHIVE] = pedralume_frame;
     p->call[PLAIN] = plain_frame;
     p->source_len = RAM;
     p->output_len = FRAME;
     fill_source(p);
-    return (struct job){ name, "frame", true, FRAME, painting_turn, p, { 0, 0 } };
+    add((struct job){ name, "frame", { "archive", "plain" }, LIMIT, FRAME, painting_turn, p, { 0, 0 } });
 }
 
 #endif
@@ -179,7 +259,7 @@ static struct job frame_job(const char *name, struct painting *p)
 #ifdef WITH_REPAINT
 
 /* The left chip forward at start line 0, the right one reverse at 16. */
-static struct job repaint_job(const char *name)
+static void add_repaint(const char *name)
 {
     static struct painting p = {
         .call = { pedralume_repaint, plain_repaint },
@@ -188,67 +268,97 @@ static struct job repaint_job(const char *name)
         .output_len = REPAINT,
     };
     fill_source(&p);
-    return (struct job){ name, "repaint", false, REPAINT_RECORDS, painting_turn, &p, { 0, 0 } };
+    add((struct job){ name, "repaint", { "archive", "plain" }, NO_LIMIT, REPAINT_RECORDS, painting_turn, &p, { 0, 0 } });
 }
 
 #endif
 
 /* ---- all ---- */
 
-static bool over(const struct job *job, double limit)
+static void add_jobs(void)
 {
-    return job->limited && ratio(job) > limit;
+    static struct load writes, reads, mixed;
+    add_replay("replay, all writes", &writes, fill_writes);
+    add_replay("replay, all reads", &reads, fill_reads);
+    add_replay("replay, mixed", &mixed, fill_mixed);
+#ifdef WITH_FRAME
+    add_frame("frame, both forward", &frames[0]);
+    add_frame("frame, both reverse", &frames[1]);
+    add_frame("frame, forward and reverse", &frames[2]);
+    add_frame("frame, the same at duty 1/16", &frames[3]);
+    add_frame("frame, static drive on", &frames[4]);
+    add_frame("frame, display off", &frames[5]);
+#endif
+#ifdef WITH_REPAINT
+    add_repaint("repaint");
+#endif
+#ifdef WITH_FEED
+    add_feeds(FEED_NAMES("all writes"), &writes);
+    add_feeds(FEED_NAMES("all reads"), &reads);
+    add_feeds(FEED_NAMES("mixed"), &mixed);
+#endif
 }
 
-static int judge(const struct job *jobs, size_t count, double limit)
+static void run_jobs(void)
 {
-    unsigned found = 0;
-    for (size_t i = 0; i < count; i++)
-        if (over(&jobs[i], limit)) {
-            printf("bench: %s: ratio %.2f is over the limit %.2f\n", jobs[i].name, ratio(&jobs[i]), limit);
-            found++;
+    printf("bench: best of %u turns in %u rounds; a turn is a trace of %u records, chips and RAM restored and the\n"
+           "       answers cleared before, untimed, or %u frames or repaints; a feed is opened before, untimed,\n"
+           "       and given the trace in parts of so many bytes\n",
+           (unsigned)(ROUNDS * TURNS_A_ROUND), (unsigned)ROUNDS, (unsigned)RECORDS_MAX, (unsigned)CALLS_A_TURN);
+    for (unsigned round = 0; round < ROUNDS; round++)
+        for (size_t i = 0; i < job_count; i++)
+            run_round(&jobs[i]);
+    for (const struct job *job = jobs; job < jobs + job_count; job++)
+        printf("  %-29s %-7s %8.2f ns, %-6s %8.2f ns for each %-8s ratio %6.2f\n", job->name, job->side[ARCHIVE],
+               job->best[ARCHIVE], job->side[PLAIN], job->best[PLAIN], job->unit, ratio(job));
+}
+
+/* Whether no job that this limit is for has a ratio over it. */
+static bool holds(unsigned which, double limit)
+{
+    static const char *const whose[LIMITS] = { "a replay or a frame", "a feed in parts of 512 bytes or more" };
+    unsigned held = 0, over = 0;
+    for (const struct job *job = jobs; job < jobs + job_count; job++) {
+        if (job->limit != which)
+            continue;
+        held++;
+        if (ratio(job) > limit) {
+            printf("bench: %s: ratio %.2f is over the limit %.2f\n", job->name, ratio(job), limit);
+            over++;
         }
-    if (found == 0)
-        printf("bench: no ratio of a replay or a frame is over %.2f\n", limit);
-    return found == 0 ? EXIT_SUCCESS : EXIT_FAILURE;
+    }
+    if (held == 0)
+        printf("bench: there is no ratio of %s to hold to %.2f\n", whose[which], limit);
+    else if (over == 0)
+        printf("bench: no ratio of %s is over %.2f\n", whose[which], limit);
+    return held > 0 && over == 0;
+}
+
+/* 0 is no limit. */
+static bool read_limit(const char *text, double *limit)
+{
+    char *rest;
+    *limit = 0;
+    if (strcmp(text, "-") == 0)
+        return true;
+    *limit = strtod(text, &rest);
+    return *rest == '\0' && *limit > 0;
 }
 
 int main(int argc, char **argv)
 {
-    char *rest = "";
-    double limit = argc > 1 ? strtod(argv[1], &rest) : 0;
-    if (argc > 2 || *rest != '\0' || (argc > 1 && !(limit > 0))) {
-        fprintf(stderr, "Usage: bench [LIMIT], a ratio over 0\n");
+    double limit[LIMITS] = { 0 };
+    bool good = argc <= 1 + LIMITS;
+    for (int i = 1; good && i < argc; i++)
+        good = read_limit(argv[i], &limit[i - 1]);
+    if (!good) {
+        fprintf(stderr, "Usage: bench [LIMIT [FEED_LIMIT]], each a ratio over 0, or - for none\n");
         return 2;
     }
-
-    static struct load writes, reads, mixed;
-    struct job jobs[] = {
-        replay_job("replay, all writes", &writes, fill_writes),
-        replay_job("replay, all reads", &reads, fill_reads),
-        replay_job("replay, mixed", &mixed, fill_mixed),
-#ifdef WITH_FRAME
-        frame_job("frame, both forward", &frames[0]),
-        frame_job("frame, both reverse", &frames[1]),
-        frame_job("frame, forward and reverse", &frames[2]),
-        frame_job("frame, the same at duty 1/16", &frames[3]),
-        frame_job("frame, static drive on", &frames[4]),
-        frame_job("frame, display off", &frames[5]),
-#endif
-#ifdef WITH_REPAINT
-        repaint_job("repaint"),
-#endif
-    };
-    const size_t count = sizeof jobs / sizeof jobs[0];
-
-    printf("bench: best of %u turns in %u rounds; a turn is a trace of %u records, chips and RAM restored and the\n"
-           "       answers cleared before, untimed, or %u frames or repaints\n",
-           (unsigned)(ROUNDS * TURNS_A_ROUND), (unsigned)ROUNDS, (unsigned)RECORDS_MAX, (unsigned)CALLS_A_TURN);
-    for (unsigned round = 0; round < ROUNDS; round++)
-        for (size_t i = 0; i < count; i++)
-            run_round(&jobs[i]);
-    for (size_t i = 0; i < count; i++)
-        printf("  %-29s archive %8.2f ns, plain %8.2f ns for each %-8s ratio %6.2f\n", jobs[i].name,
-               jobs[i].best[ARCHIVE], jobs[i].best[PLAIN], jobs[i].unit, ratio(&jobs[i]));
-    return argc > 1 ? judge(jobs, count, limit) : EXIT_SUCCESS;
+    add_jobs();
+    run_jobs();
+    for (unsigned which = 0; which < LIMITS; which++)
+        if (limit[which] > 0)
+            good = holds(which, limit[which]) && good;
+    return good ? EXIT_SUCCESS : EXIT_FAILURE;
 }

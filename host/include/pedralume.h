@@ -1,10 +1,13 @@
 /*
  * pedralume.h: a model of two SED1520 chips behind one 122 by 32 panel.
  *
- * Three calls:
- *   pedralume_replay   replays a recorded bus trace on both chips
- *   pedralume_frame    gives the 122 by 32 pixels the panel shows
- *   pedralume_repaint  writes the bus records that bring a 122 by 16 picture to the panel
+ * Six calls:
+ *   pedralume_replay      replays a recorded bus trace on both chips
+ *   pedralume_frame       gives the 122 by 32 pixels the panel shows
+ *   pedralume_repaint     writes the bus records that bring a 122 by 16 picture to the panel
+ *   pedralume_feed_open   begins a replay of a trace that comes in parts
+ *   pedralume_feed_part   takes the next part of it, cut anywhere
+ *   pedralume_feed_close  ends it
  *
  * Chip 0 is the left one, chip 1 the right one.
  *
@@ -56,7 +59,8 @@
  *   chip   0 or 1
  *   data   the byte written, or for a read the byte that the recorder saw
  *
- * A trace has no header. It may be empty, and is at most 65,536 bytes long (16,384 records).
+ * A trace has no header and may be empty. Replay takes at most 65,536 bytes (16,384 records) at once;
+ * a longer trace goes through a feed.
  *
  * Commands:
  *   00-7F  column = byte; read latch stale      A0 A1  ADC forward, reverse
@@ -111,36 +115,106 @@
  * until then.
  *
  *
- * WHAT EACH CALL GIVES BACK: number + 256 * place + 2^24 * compared + 2^40 * differing
+ * FEED RECORD, 48 bytes: a replay in parts
  *
- * Take it apart with pedralume_number, _place, _compared and _differing below. compared and
- * differing are 0 for frame and repaint. The lowest number whose cause holds is given; at equal
- * number the left chip comes before the right one.
+ * A recorder hands its buffer over when it is full, often inside a record. A feed takes such parts
+ * one after the other. It keeps the up to three bytes of a record that a part leaves unfinished, and
+ * the next part goes on with them. Its record is all that it has beside RAM, which is lent with each
+ * part:
+ *
+ *   byte   field
+ *    0-23  chips, as the last accepted record left them
+ *   24     kept count, 0 to 3: how many bytes are kept over
+ *   25-27  the kept bytes; those past the count are written as 0 and not looked at
+ *   28     stopped: 0 open, 1 stopped
+ *   29     number, 0 while open
+ *   30-31  0
+ *   32-35  place, 0 while open
+ *   36-39  records accepted since the opening
+ *   40-43  reads compared since the opening, at most the records
+ *   44-47  compared reads that differ, at most those compared
+ *   (The last four are numbers of 4 bytes, lowest byte first. pedralume_feed_records, _compared and
+ *   _differing below read three of them.)
+ *
+ * Open it with pedralume_feed_open: 48 bytes of 0 pass for an open feed too, but on chips that are not
+ * fresh. Of a record whose byte 28 is 1 nothing else is looked at: it repeats bytes 29 and 32 to 35,
+ * whatever they hold.
+ *
+ * A feed record may be copied, and kept as long as one likes: the copy, with a copy of RAM taken at
+ * the same time, goes on from there as the first would have. Its first 24 bytes are chips that
+ * pedralume_frame takes, but where the opening was refused: then they are the bad ones it was given. An
+ * opening does not mind what the 48 bytes hold before; to open a feed with the chips of one that is
+ * stopped, copy these 24 out first, since the two buffers may not overlap.
+ *
+ * Where a trace is cut makes no difference, parts of length 0 included. Say that replay takes a trace
+ * without numbers 1 to 3, and that each part is lent answers enough and RAM as the part before left it.
+ * Then the answers joined, chips, RAM, counts, number and place are those of replay, and the close
+ * gives this number and place too. A part is at most 65,536 bytes long, all parts together at most
+ * 4,294,967,295 records: to replay a trace over 65,536 bytes, open a feed, give it the trace in parts
+ * of at most 65,536 bytes each, and close it. Past 13, open a feed anew with the chips, and give it the
+ * bytes kept over before the part that was not taken.
+ *
+ * The answers to a part begin at the start of the buffer lent with it. It must have 2 bytes for each
+ * record that the part completes, which are (kept count + part length) / 4, rounded down; for a feed
+ * that these calls wrote, 2 * ((part length + 3) / 4) bytes are always enough. Written are the answers
+ * of the records that are accepted. A record refused at a place begins in its part at byte
+ * 4 * (place - records before the part) - kept count before the part.
+ *
+ * A feed is stopped by a refused record (4 to 8), by its close, and by an opening with a bad chip. A
+ * stopped feed takes nothing more: part and close repeat its number and place and change nothing,
+ * whatever else they are lent. After any other refusal (1, 13, a later 2) the part is not taken, the
+ * close closes nothing, and the feed is as it was: the next call is as if the refused one had not been.
+ *
+ *
+ * WHAT EACH CALL GIVES BACK: number + 256 * place + 2^24 * compared + 2^40 * differing; for the feed's
+ * three calls number + 256 * place
+ *
+ * Take it apart with pedralume_number, _place, _compared and _differing below; for a feed with
+ * pedralume_number and pedralume_feed_place, and not with the other three. A feed's place has 32 bits,
+ * and its counts so far are in its record, whatever the number. compared and differing are 0 for frame and repaint. The lowest
+ * number whose cause holds is given, but 13 comes right after 1; at equal number the left chip comes
+ * before the right one, and both before place 3.
  *
  *   no.  call  cause                                               place
  *    0   all   done                                                replay: records replayed;
- *                                                                  frame: 488; repaint: 254
- *    1   all   chips not 24 bytes                                  0
+ *                                                                  frame: 488; repaint: 254;
+ *                                                                  open: 0; part and close:
+ *                                                                  records since the opening
+ *    1   RFPO  chips not 24 bytes                                  0
  *        R     trace over 65,536 bytes; RAM not 640; answers       0
  *              under 2 bytes for each whole record of the trace
  *        F     RAM not 640; frame not 488                          0
  *        P     picture not 244; output buffer under 1,016          0
+ *        OTC   feed record not 48 bytes                            0
+ *        T     part over 65,536 bytes; RAM not 640; answers        0
+ *              under 2 bytes for each record that the part
+ *              completes
+ *   13   T     over 4,294,967,295 records since the opening, with  0
+ *              those that the part completes
  *    2   all   a chip record with a field out of its range         chip
+ *        TC    kept count over 3; compared above records;          3
+ *              differing above compared; stopped neither 0 nor 1;
+ *              byte 30 or 31 not 0; number or place not 0 while
+ *              stopped is not 1
  *    3   R     trace length no multiple of 4                       whole records
- *    4   R     spare line bits or the fourth byte not 0            record
- *    5   R     chip over 1                                         record
- *    6   R     RD and WR equal                                     record
- *    7   R     a command write with a byte that is no command      record
- *    8   R     column set (00-7F) while read-modify-write is on    record
+ *        C     bytes are kept over                                 records since the opening
+ *    4   RT    spare line bits or the fourth byte not 0            record
+ *    5   RT    chip over 1                                         record
+ *    6   RT    RD and WR equal                                     record
+ *    7   RT    a command write with a byte that is no command      record
+ *    8   RT    column set (00-7F) while read-modify-write is on    record
  *    9   P     display off, or static drive on                     chip
  *   10   P     duty 1/32                                           chip
  *   11   P     start line neither 0 nor 16                         chip
  *   12   P     read-modify-write on                                chip
- *   (R replay, F frame, P repaint. Records count from 0.)
+ *   (R replay, F frame, P repaint; of a feed O open, T part, C close. Records count from 0, for a feed
+ *   from its opening. T and C of a stopped feed repeat its number and place before all but the 48.)
  *
- * 1, 2, 3 and 9 to 12: every buffer is as it came.
- * 4 to 8 at record i: chips, RAM and answers are those after records 0 to i-1, which stand with
+ * 1, 2, 3 and 9 to 13: every buffer is as it came. But open's 2 and close's 3 stop the feed: open
+ * writes the chips as given, stopped, number and place, the rest 0; close changes these three only.
+ * 4 to 8 at record i: chips, RAM and answers are those after the records before i, which stand with
  * their answers; compared and differing count reads before i only; the rest of answers is as it came.
+ * A feed is then stopped with that number and place, and its kept count and bytes are 0.
  *
  *
  * EXAMPLE
@@ -171,6 +245,24 @@
  *   answer = pedralume_repaint(chips, sizeof chips, picture, sizeof picture, records, sizeof records);
  *   if (pedralume_number(answer) == PEDRALUME_DONE)
  *       pedralume_replay(chips, sizeof chips, ram, sizeof ram, records, sizeof records, given, sizeof given);
+ *
+ * A recorder's loop, from chips and RAM as above. take_bytes gives how many bytes it has put into
+ * part, 0 at the end of the recording:
+ *
+ *   uint8_t feed[PEDRALUME_FEED_BYTES], part[512];
+ *   uint8_t heard[(sizeof part + 3) / PEDRALUME_RECORD_BYTES * PEDRALUME_ANSWER_BYTES];
+ *   size_t length;
+ *   answer = pedralume_feed_open(feed, sizeof feed, chips, sizeof chips);
+ *   while (pedralume_number(answer) == PEDRALUME_DONE && (length = take_bytes(part, sizeof part)) > 0) {
+ *       uint32_t before = pedralume_feed_records(feed);
+ *       answer = pedralume_feed_part(feed, sizeof feed, ram, sizeof ram, part, length, heard, sizeof heard);
+ *       for (uint32_t i = before; i < pedralume_feed_records(feed); i++)
+ *           printf("%u %u %02X\n", i, heard[2 * (i - before)], heard[2 * (i - before) + 1]);
+ *   }
+ *   if (pedralume_number(answer) == PEDRALUME_DONE)
+ *       answer = pedralume_feed_close(feed, sizeof feed);     // 3: the recording ends inside a record
+ *   printf("end %u %u %u %u\n", pedralume_number(answer), pedralume_feed_place(answer),
+ *          pedralume_feed_compared(feed), pedralume_feed_differing(feed));
  */
 #ifndef PEDRALUME_H
 #define PEDRALUME_H
@@ -193,6 +285,11 @@ extern "C" {
 #define PEDRALUME_PICTURE_BYTES 244u
 #define PEDRALUME_REPAINT_RECORDS 254u
 #define PEDRALUME_REPAINT_BYTES 1016u
+#define PEDRALUME_FEED_BYTES 48u
+#define PEDRALUME_PART_MAX_BYTES 65536u
+
+/* The most records that a feed takes from its opening to its close. */
+#define PEDRALUME_FEED_MAX_RECORDS 4294967295u
 
 /* Initialiser of one fresh chip record. */
 #define PEDRALUME_FRESH_CHIP 0, 0, 1, 0, 0, 0, 0, 0, 0, 0, 0, 0
@@ -212,6 +309,23 @@ enum {
     PEDRALUME_LATCH_BYTE = 10,
     PEDRALUME_ZERO = 11
 };
+
+/* Places of the fields in a feed record. */
+enum {
+    PEDRALUME_FEED_CHIPS = 0,
+    PEDRALUME_FEED_KEPT_COUNT = 24,
+    PEDRALUME_FEED_KEPT = 25,
+    PEDRALUME_FEED_STOPPED = 28,
+    PEDRALUME_FEED_NUMBER = 29,
+    PEDRALUME_FEED_ZEROS = 30,
+    PEDRALUME_FEED_PLACE = 32,
+    PEDRALUME_FEED_RECORDS = 36,
+    PEDRALUME_FEED_COMPARED = 40,
+    PEDRALUME_FEED_DIFFERING = 44
+};
+
+/* The place of number 2 where not a chip but the rest of a feed record is at fault. */
+enum { PEDRALUME_PLACE_OF_FEED = 3 };
 
 /* Lines of the four bus cycles. */
 enum {
@@ -243,13 +357,38 @@ enum {
     PEDRALUME_NOT_SHOWING = 9,
     PEDRALUME_WRONG_DUTY = 10,
     PEDRALUME_WRONG_START_LINE = 11,
-    PEDRALUME_RMW_ON = 12
+    PEDRALUME_RMW_ON = 12,
+    PEDRALUME_TOO_MANY = 13
 };
 
 static inline unsigned pedralume_number(uint64_t answer) { return (unsigned)(answer & 0xFFu); }
 static inline unsigned pedralume_place(uint64_t answer) { return (unsigned)(answer >> 8 & 0xFFFFu); }
 static inline unsigned pedralume_compared(uint64_t answer) { return (unsigned)(answer >> 24 & 0xFFFFu); }
 static inline unsigned pedralume_differing(uint64_t answer) { return (unsigned)(answer >> 40 & 0xFFFFu); }
+
+/* The place that a call of a feed gives. */
+static inline uint32_t pedralume_feed_place(uint64_t answer) { return (uint32_t)(answer >> 8 & 0xFFFFFFFFu); }
+
+/* The number of 4 bytes in a feed record that begins at this byte; then the three that are counts. */
+static inline uint32_t pedralume_feed_field(const uint8_t *feed, unsigned at)
+{
+    return feed[at] | (uint32_t)feed[at + 1] << 8 | (uint32_t)feed[at + 2] << 16 | (uint32_t)feed[at + 3] << 24;
+}
+
+static inline uint32_t pedralume_feed_records(const uint8_t *feed)
+{
+    return pedralume_feed_field(feed, PEDRALUME_FEED_RECORDS);
+}
+
+static inline uint32_t pedralume_feed_compared(const uint8_t *feed)
+{
+    return pedralume_feed_field(feed, PEDRALUME_FEED_COMPARED);
+}
+
+static inline uint32_t pedralume_feed_differing(const uint8_t *feed)
+{
+    return pedralume_feed_field(feed, PEDRALUME_FEED_DIFFERING);
+}
 
 /*
  * Replays the trace. Rewrites chips and RAM to what they are after the last accepted record, and
@@ -273,6 +412,30 @@ uint64_t pedralume_frame(const uint8_t *chips, size_t chips_len,
 uint64_t pedralume_repaint(const uint8_t *chips, size_t chips_len,
                            const uint8_t *picture, size_t picture_len,
                            uint8_t *output, size_t output_len);
+
+/*
+ * Writes the feed record: the chips as given, nothing kept over, all counts 0. With a bad chip (2) the
+ * feed is stopped with that.
+ */
+uint64_t pedralume_feed_open(uint8_t *feed, size_t feed_len,
+                             const uint8_t *chips, size_t chips_len);
+
+/*
+ * Replays the records that the kept bytes followed by the part make whole. Brings feed record and RAM
+ * to what they are after the last accepted one, and writes 2 bytes of answers for each accepted one
+ * from the start of answers; bytes past these stay. What the part leaves unfinished is kept over. A
+ * part of length 0 is a part, and may be refused as one.
+ */
+uint64_t pedralume_feed_part(uint8_t *feed, size_t feed_len,
+                             uint8_t *ram, size_t ram_len,
+                             const uint8_t *part, size_t part_len,
+                             uint8_t *answers, size_t answers_len);
+
+/*
+ * Ends the feed: 3 where bytes are kept over, else 0. Changes stopped, number and place of the feed
+ * record only, so that chips and counts can still be read.
+ */
+uint64_t pedralume_feed_close(uint8_t *feed, size_t feed_len);
 
 #ifdef __cplusplus
 }

@@ -1,5 +1,5 @@
-//! Replay, frame and repaint, written plainly from document 01 and for speed. It is what the
-//! archive is compared with and timed against, so it shares nothing with it.
+//! Replay, frame, repaint and feed, written plainly from documents 01 and 02 and for speed. It is what
+//! the archive is compared with and timed against, so it shares nothing with it.
 #![forbid(unsafe_code)]
 
 const CHIP: usize = 12;
@@ -11,6 +11,7 @@ const FRAME: usize = 4 * WIDTH;
 const TRACE_MAX: usize = 65_536;
 const PAGE_RECORDS: usize = 2 + SEGMENTS;
 const REPAINT_RECORDS: usize = 4 * PAGE_RECORDS + 2;
+const FEED: usize = 48;
 
 type Halves = [[u8; HALF_RAM]; 2];
 
@@ -319,6 +320,173 @@ fn try_repaint(chips: &[u8], picture: &[u8], output: &mut [u8]) -> Result<Outcom
     Ok(Outcome::new(0, REPAINT_RECORDS))
 }
 
+/// All records taken, or the refusal of the first that is not.
+type Taken = Result<(), Outcome>;
+
+/// A feed record's fields, whatever they hold.
+#[derive(Default)]
+struct Feed {
+    chips: [[u8; CHIP]; 2],
+    kept_count: u8,
+    kept: [u8; 3],
+    stopped: u8,
+    number: u8,
+    zeros: [u8; 2],
+    place: u32,
+    records: u32,
+    compared: u32,
+    differing: u32,
+}
+
+impl Feed {
+    fn decode(bytes: &[u8; FEED]) -> Feed {
+        let (chips, fields) = bytes.split_at(2 * CHIP);
+        let number_at = |at: usize| u32::from_le_bytes([bytes[at], bytes[at + 1], bytes[at + 2], bytes[at + 3]]);
+        Feed {
+            chips: *table(chips).expect("24 bytes"),
+            kept_count: fields[0],
+            kept: [fields[1], fields[2], fields[3]],
+            stopped: fields[4],
+            number: fields[5],
+            zeros: [fields[6], fields[7]],
+            place: number_at(32),
+            records: number_at(36),
+            compared: number_at(40),
+            differing: number_at(44),
+        }
+    }
+
+    fn encode(&self) -> [u8; FEED] {
+        let mut bytes = [0; FEED];
+        bytes[..2 * CHIP].copy_from_slice(self.chips.as_flattened());
+        bytes[24] = self.kept_count;
+        bytes[25..28].copy_from_slice(&self.kept);
+        bytes[28] = self.stopped;
+        bytes[29] = self.number;
+        bytes[30..32].copy_from_slice(&self.zeros);
+        let numbers = [self.place, self.records, self.compared, self.differing];
+        for (slot, number) in bytes[32..].chunks_exact_mut(4).zip(numbers) {
+            slot.copy_from_slice(&number.to_le_bytes());
+        }
+        bytes
+    }
+
+    /// A stopped feed's number and place once more, in place of all that the call would do.
+    fn refuse_if_stopped(&self) -> Result<(), Outcome> {
+        if self.stopped == 1 { Err(Outcome::new(self.number, self.place as usize)) } else { Ok(()) }
+    }
+
+    /// The chips of an open feed, or number 2.
+    fn check(&self) -> Result<[Chip; 2], Outcome> {
+        let state = decode_chips(&self.chips)?;
+        let sound = self.kept_count <= 3
+            && self.compared <= self.records
+            && self.differing <= self.compared
+            && self.stopped == 0
+            && self.zeros == [0, 0]
+            && self.number == 0
+            && self.place == 0;
+        if sound { Ok(state) } else { Err(Outcome::new(2, 3)) }
+    }
+
+    fn stop(&mut self, number: u8, place: usize) {
+        self.stopped = 1;
+        self.number = number;
+        self.place = place as u32;
+    }
+
+    fn keep(&mut self, bytes: &[u8]) {
+        self.kept = [0; 3];
+        self.kept[..bytes.len()].copy_from_slice(bytes);
+        self.kept_count = bytes.len() as u8;
+    }
+
+    /// Runs records as replay does and counts them; a refused one stops the feed.
+    fn run(&mut self, state: &mut [Chip; 2], ram: &mut Halves, trace: &[[u8; 4]], slots: &mut [[u8; 2]]) -> Taken {
+        let outcome = run(state, ram, trace, slots);
+        self.records += outcome.place as u32;
+        self.compared += outcome.compared;
+        self.differing += outcome.differing;
+        if outcome.number == 0 {
+            return Ok(());
+        }
+        self.keep(&[]);
+        self.stop(outcome.number, self.records as usize);
+        self.refuse_if_stopped()
+    }
+
+    /// Takes a part that is not refused as a whole: first the record that the kept bytes begin, if they
+    /// do, then those that lie whole in the part, and keeps the rest.
+    fn take(&mut self, state: &mut [Chip; 2], ram: &mut Halves, part: &[u8], slots: &mut [[u8; 2]]) -> Taken {
+        let begun = usize::from(self.kept_count);
+        let mut record = [0; 4];
+        record[..begun].copy_from_slice(&self.kept[..begun]);
+        let missing = if begun == 0 { 0 } else { 4 - begun };
+        if part.len() < missing {
+            let now = begun + part.len();
+            record[begun..now].copy_from_slice(part);
+            self.keep(&record[..now]);
+            return Ok(());
+        }
+        let (end, rest) = part.split_at(missing);
+        record[4 - missing..].copy_from_slice(end);
+        let straddling = usize::from(begun > 0);
+        let (first, others) = slots.split_at_mut(straddling);
+        self.run(state, ram, &[record][..straddling], first)?;
+        let (records, unfinished) = rest.as_chunks();
+        self.run(state, ram, records, others)?;
+        self.keep(unfinished);
+        Ok(())
+    }
+}
+
+fn feed_record(bytes: &mut [u8]) -> Result<&mut [u8; FEED], Outcome> {
+    bytes.try_into().map_err(|_| Outcome::new(1, 0))
+}
+
+fn try_open(feed: &mut [u8], chips: &[u8]) -> Result<Outcome, Outcome> {
+    let record = feed_record(feed)?;
+    let chips = table(chips).ok_or(Outcome::new(1, 0))?;
+    let mut feed = Feed { chips: *chips, ..Feed::default() };
+    let checked = decode_chips(chips);
+    if let Err(refusal) = &checked {
+        feed.stop(refusal.number, refusal.place);
+    }
+    *record = feed.encode();
+    checked.map(|_| Outcome::new(0, 0))
+}
+
+fn try_part(feed: &mut [u8], ram: &mut [u8], part: &[u8], answers: &mut [u8]) -> Result<Outcome, Outcome> {
+    let record = feed_record(feed)?;
+    let mut feed = Feed::decode(record);
+    feed.refuse_if_stopped()?;
+    let completed = (usize::from(feed.kept_count) + part.len()) / 4;
+    let ram = table_mut(ram).ok_or(Outcome::new(1, 0))?;
+    let slots = answers.as_chunks_mut().0;
+    if part.len() > TRACE_MAX || slots.len() < completed {
+        return Err(Outcome::new(1, 0));
+    }
+    if u64::from(feed.records) + completed as u64 > u64::from(u32::MAX) {
+        return Err(Outcome::new(13, 0));
+    }
+    let mut state = feed.check()?;
+    let taken = feed.take(&mut state, ram, part, slots);
+    feed.chips = state.map(|chip| chip.encode());
+    *record = feed.encode();
+    taken.map(|()| Outcome::new(0, feed.records as usize))
+}
+
+fn try_close(feed: &mut [u8]) -> Result<Outcome, Outcome> {
+    let record = feed_record(feed)?;
+    let mut feed = Feed::decode(record);
+    feed.refuse_if_stopped()?;
+    feed.check()?;
+    let number = if feed.kept_count > 0 { 3 } else { 0 };
+    feed.stop(number, feed.records as usize);
+    *record = feed.encode();
+    Ok(Outcome::new(number, feed.records as usize))
+}
+
 fn pack(outcome: Result<Outcome, Outcome>) -> u64 {
     let (Ok(outcome) | Err(outcome)) = outcome;
     outcome.pack()
@@ -334,4 +502,16 @@ pub fn frame(chips: &[u8], ram: &[u8], frame: &mut [u8]) -> u64 {
 
 pub fn repaint(chips: &[u8], picture: &[u8], output: &mut [u8]) -> u64 {
     pack(try_repaint(chips, picture, output))
+}
+
+pub fn feed_open(feed: &mut [u8], chips: &[u8]) -> u64 {
+    pack(try_open(feed, chips))
+}
+
+pub fn feed_part(feed: &mut [u8], ram: &mut [u8], part: &[u8], answers: &mut [u8]) -> u64 {
+    pack(try_part(feed, ram, part, answers))
+}
+
+pub fn feed_close(feed: &mut [u8]) -> u64 {
+    pack(try_close(feed))
 }

@@ -70,3 +70,43 @@ pub unsafe extern "C" fn repaint(
         )
     }
 }
+
+/// # Safety
+/// As for `replay`.
+#[cfg_attr(as_pedralume, unsafe(export_name = "pedralume_feed_open"))]
+#[cfg_attr(not(as_pedralume), unsafe(export_name = "plain_feed_open"))]
+pub unsafe extern "C" fn feed_open(feed: *mut u8, feed_len: usize, chips: *const u8, chips_len: usize) -> u64 {
+    unsafe { plain::feed_open(from_raw_parts_mut(feed, feed_len), from_raw_parts(chips, chips_len)) }
+}
+
+/// # Safety
+/// As for `replay`.
+#[cfg_attr(as_pedralume, unsafe(export_name = "pedralume_feed_part"))]
+#[cfg_attr(not(as_pedralume), unsafe(export_name = "plain_feed_part"))]
+pub unsafe extern "C" fn feed_part(
+    feed: *mut u8,
+    feed_len: usize,
+    ram: *mut u8,
+    ram_len: usize,
+    part: *const u8,
+    part_len: usize,
+    answers: *mut u8,
+    answers_len: usize,
+) -> u64 {
+    unsafe {
+        plain::feed_part(
+            from_raw_parts_mut(feed, feed_len),
+            from_raw_parts_mut(ram, ram_len),
+            from_raw_parts(part, part_len),
+            from_raw_parts_mut(answers, answers_len),
+        )
+    }
+}
+
+/// # Safety
+/// As for `replay`.
+#[cfg_attr(as_pedralume, unsafe(export_name = "pedralume_feed_close"))]
+#[cfg_attr(not(as_pedralume), unsafe(export_name = "plain_feed_close"))]
+pub unsafe extern "C" fn feed_close(feed: *mut u8, feed_len: usize) -> u64 {
+    unsafe { plain::feed_close(from_raw_parts_mut(feed, feed_len)) }
+}

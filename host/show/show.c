@@ -1,24 +1,20 @@
 /*
  * show: what the panel shows after a trace, or within a repaint that follows it, as text and as a
- * PBM file.
+ * PBM file; or, in live.c, while the records come.
  *
- * Records from either source are a batch. A batch is cut by --at, then sent to the panel; the frame
- * is taken once, after the last batch. Nothing is shown or written unless all of that is done.
+ * Here, records from either source are a batch. A batch is cut by --at, then sent to the panel; the
+ * frame is taken once, after the last batch. Nothing is shown or written unless all of that is done.
  */
-#include "pedralume.h"
+#include "show.h"
 
 #include <errno.h>
-#include <stdbool.h>
 #include <stdio.h>
 #include <stdlib.h>
 #include <string.h>
 
 enum {
-    WIDTH = 122,
-    HEIGHT = 32,
     PICTURE_HEIGHT = 16,
     PBM_ROW = (WIDTH + 7) / 8,
-    RECORD = PEDRALUME_RECORD_BYTES,
     /* One record more than replay takes, so that replay itself refuses a longer file. */
     RECORDS_KEPT = PEDRALUME_TRACE_MAX_BYTES / PEDRALUME_RECORD_BYTES + 1,
     /* More than a picture takes, with room for comments. */
@@ -28,6 +24,7 @@ enum {
 
 static const char usage[] =
     "Usage: show TRACE [--repaint PICTURE] [--at N] [--pbm FILE]\n"
+    "       show --live\n"
     "\n"
     "Sends the bus records of the file TRACE to two fresh chips with RAM all 0, and shows the\n"
     "122 by 32 panel as it is then. A text row is two pixel rows.\n"
@@ -37,13 +34,17 @@ static const char usage[] =
     "  --at N             send only the first N records of the trace; with --repaint, only the\n"
     "                     first N records of the repaint; N may be 0\n"
     "  --pbm FILE         also write the panel to FILE, a binary PBM (P4) of 122 by 32, 1 = lit\n"
+    "  --live             instead of a file, take records from standard input as they come, cut\n"
+    "                     anywhere: shows the panel at first and again after each record that\n"
+    "                     changed it, on a terminal in place of the last; ends with the input or at\n"
+    "                     a refused record, and counts the records taken and the reads compared\n"
     "  --help             print this\n"
     "\n"
     "After each of the first 252 records of a repaint the panel shows what it showed before; after\n"
     "the 253rd the left half is new, after the 254th both are. It takes a repaint with both displays\n"
     "on, static drive off, duty 1/16, start line 0 or 16 and read-modify-write off.\n"
     "\n"
-    "Status: 0 shown, 1 a file, the trace or the repaint is at fault, 2 the arguments are.\n";
+    "Status: 0 shown, 1 a file, the trace, the input or the repaint is at fault, 2 the arguments are.\n";
 
 /* As typed; NULL where not given. */
 struct options {
@@ -51,6 +52,7 @@ struct options {
     const char *repaint;
     const char *at;
     const char *pbm;
+    const char *live;
 };
 
 struct panel {
@@ -77,48 +79,6 @@ struct reader {
 static bool wrong_argument(const char *what, const char *argument)
 {
     fprintf(stderr, "show: %s \"%s\"; see show --help\n", what, argument);
-    return false;
-}
-
-/* Call with errno as the failed call left it, and 0 before that call. */
-static bool file_failed(const char *path, const char *what)
-{
-    fprintf(stderr, "%s: %s: %s\n", path, what, errno != 0 ? strerror(errno) : "reason unknown");
-    return false;
-}
-
-/* What a number means; document 01's table in a few words. */
-static const char *meaning(unsigned number)
-{
-    static const char *const words[] = {
-        [PEDRALUME_BAD_LENGTH] = "a trace over 65,536 bytes",
-        [PEDRALUME_BAD_CHIP] = "a chip with a field out of its range",
-        [PEDRALUME_CUT_TRACE] = "a length that is no multiple of 4",
-        [PEDRALUME_SPARE_BITS] = "spare line bits or the fourth byte not 0",
-        [PEDRALUME_NO_SUCH_CHIP] = "a chip over 1",
-        [PEDRALUME_EQUAL_STROBES] = "RD and WR equal",
-        [PEDRALUME_NO_COMMAND] = "a byte that is no command",
-        [PEDRALUME_COLUMN_IN_RMW] = "a column set while read-modify-write is on",
-        [PEDRALUME_NOT_SHOWING] = "display off or static drive on",
-        [PEDRALUME_WRONG_DUTY] = "duty 1/32",
-        [PEDRALUME_WRONG_START_LINE] = "a start line neither 0 nor 16",
-        [PEDRALUME_RMW_ON] = "read-modify-write on",
-    };
-    bool known = number < sizeof words / sizeof words[0] && words[number] != NULL;
-    return known ? words[number] : "which this program does not know";
-}
-
-/* The place is a record for numbers 4 to 8, and how many whole records there are for 3. */
-static bool batch_refused(const char *name, uint64_t answer)
-{
-    unsigned number = pedralume_number(answer);
-    unsigned place = pedralume_place(answer);
-    if (number >= PEDRALUME_SPARE_BITS && number <= PEDRALUME_COLUMN_IN_RMW)
-        fprintf(stderr, "%s: record %u refused: number %u, %s\n", name, place, number, meaning(number));
-    else if (number == PEDRALUME_CUT_TRACE)
-        fprintf(stderr, "%s: refused: number %u, %s (whole records: %u)\n", name, number, meaning(number), place);
-    else
-        fprintf(stderr, "%s: refused: number %u, %s\n", name, number, meaning(number));
     return false;
 }
 
@@ -150,7 +110,7 @@ static bool asks_for_help(int argc, char **argv)
     return false;
 }
 
-/* Where an option's value goes, or NULL for an unknown option. What is no option is the trace. */
+/* Where an option's value goes, or --live itself; NULL for an unknown option. What is no option is the trace. */
 static const char **slot_of(struct options *options, const char *argument)
 {
     if (strcmp(argument, "--repaint") == 0)
@@ -159,6 +119,8 @@ static const char **slot_of(struct options *options, const char *argument)
         return &options->at;
     if (strcmp(argument, "--pbm") == 0)
         return &options->pbm;
+    if (strcmp(argument, "--live") == 0)
+        return &options->live;
     return argument[0] == '-' ? NULL : &options->trace;
 }
 
@@ -167,8 +129,22 @@ static bool is_count(const char *text)
     return text[0] != '\0' && text[strspn(text, "0123456789")] == '\0';
 }
 
+/* What --live does not go with. */
+static bool check_live(const struct options *options)
+{
+    if (options->trace != NULL)
+        return wrong_argument("--live takes standard input and no file:", options->trace);
+    if (options->repaint != NULL)
+        return wrong_argument("--live goes without", "--repaint");
+    if (options->at != NULL)
+        return wrong_argument("--live goes without", "--at");
+    return options->pbm == NULL || wrong_argument("--live goes without", "--pbm");
+}
+
 static bool check_options(const struct options *options)
 {
+    if (options->live != NULL)
+        return check_live(options);
     if (options->trace == NULL)
         return wrong_argument("no file for", "TRACE");
     if (options->at != NULL && !is_count(options->at))
@@ -186,7 +162,7 @@ static bool read_options(int argc, char **argv, struct options *options)
             return wrong_argument("unknown option", argument);
         if (*slot != NULL)
             return wrong_argument(slot == &options->trace ? "more than one trace:" : "more than one", argument);
-        if (slot != &options->trace) {
+        if (slot != &options->trace && slot != &options->live) {
             i++;
             /* A forgotten value must not swallow the next option; a file may still be ./--name. */
             if (i == argc || strncmp(argv[i], "--", 2) == 0)
@@ -238,7 +214,8 @@ static bool send_batch(struct panel *panel, const struct batch *batch)
     static uint8_t answers[RECORDS_KEPT * PEDRALUME_ANSWER_BYTES];
     uint64_t answer = pedralume_replay(panel->chips, sizeof panel->chips, panel->ram, sizeof panel->ram,
                                        batch->bytes, batch->length, answers, sizeof answers);
-    return pedralume_number(answer) == PEDRALUME_DONE || batch_refused(batch->name, answer);
+    return pedralume_number(answer) == PEDRALUME_DONE
+        || trace_refused(batch->name, pedralume_number(answer), pedralume_place(answer));
 }
 
 /* With --repaint, --at is for the repaint. */
@@ -415,58 +392,7 @@ static bool send_repaint(struct panel *panel, const struct options *options)
         && send_batch(panel, &batch);
 }
 
-/* ---- the frame as text and as PBM ---- */
-
-/* Not refused for any panel that replay has left; checked all the same. */
-static bool take_frame(const struct panel *panel, uint8_t frame[PEDRALUME_FRAME_BYTES])
-{
-    uint64_t answer = pedralume_frame(panel->chips, sizeof panel->chips, panel->ram, sizeof panel->ram,
-                                      frame, PEDRALUME_FRAME_BYTES);
-    if (pedralume_number(answer) == PEDRALUME_DONE)
-        return true;
-    fprintf(stderr, "show: the frame is refused: number %u\n", pedralume_number(answer));
-    return false;
-}
-
-static bool lit(const uint8_t *frame, unsigned x, unsigned y)
-{
-    return (frame[x + WIDTH * (y / 8)] >> (y % 8) & 1) != 0;
-}
-
-static void print_edge(const char *left, const char *right)
-{
-    fputs(left, stdout);
-    for (unsigned x = 0; x < WIDTH; x++)
-        fputs("─", stdout);
-    puts(right);
-}
-
-/* Pixel rows y and y + 1. */
-static void print_row_pair(const uint8_t *frame, unsigned y)
-{
-    static const char *const blocks[2][2] = { { " ", "▄" }, { "▀", "█" } };
-    fputs("│", stdout);
-    for (unsigned x = 0; x < WIDTH; x++)
-        fputs(blocks[lit(frame, x, y)][lit(frame, x, y + 1)], stdout);
-    puts("│");
-}
-
-/* Whether all that was printed has really gone out. */
-static bool all_printed(void)
-{
-    bool good = fflush(stdout) == 0 && !ferror(stdout);
-    return good || file_failed("standard output", "cannot be written");
-}
-
-static bool print_frame(const uint8_t *frame)
-{
-    errno = 0;
-    print_edge("┌", "┐");
-    for (unsigned y = 0; y < HEIGHT; y += 2)
-        print_row_pair(frame, y);
-    print_edge("└", "┘");
-    return all_printed();
-}
+/* ---- the frame as PBM ---- */
 
 /* The leftmost pixel is the highest bit; the bits past the last pixel are 0. */
 static bool write_pbm_row(FILE *file, const uint8_t *frame, unsigned y)
@@ -491,6 +417,18 @@ static bool write_pbm(const char *path, const uint8_t *frame)
     return (good && closed) || file_failed(path, "cannot be written");
 }
 
+/* The panel after the trace, or within the repaint that follows it. */
+static bool show_trace(const struct options *options)
+{
+    struct panel panel = { .chips = { PEDRALUME_FRESH_CHIP, PEDRALUME_FRESH_CHIP } };
+    uint8_t frame[PEDRALUME_FRAME_BYTES];
+    return send_trace(&panel, options)
+        && (options->repaint == NULL || send_repaint(&panel, options))
+        && take_frame(panel.chips, panel.ram, frame)
+        && (options->pbm == NULL || write_pbm(options->pbm, frame))
+        && print_frame(frame);
+}
+
 int main(int argc, char **argv)
 {
     if (asks_for_help(argc, argv)) {
@@ -501,13 +439,6 @@ int main(int argc, char **argv)
     struct options options;
     if (!read_options(argc, argv, &options))
         return STATUS_ARGUMENTS;
-
-    struct panel panel = { .chips = { PEDRALUME_FRESH_CHIP, PEDRALUME_FRESH_CHIP } };
-    uint8_t frame[PEDRALUME_FRAME_BYTES];
-    bool shown = send_trace(&panel, &options)
-              && (options.repaint == NULL || send_repaint(&panel, &options))
-              && take_frame(&panel, frame)
-              && (options.pbm == NULL || write_pbm(options.pbm, frame))
-              && print_frame(frame);
+    bool shown = options.live != NULL ? show_live() : show_trace(&options);
     return shown ? EXIT_SUCCESS : EXIT_FAILURE;
 }

@@ -341,6 +341,135 @@ refused "80000 bytes at 16385" 1 "$t: $over" "$t" --at 16385
 refused "80000 bytes at 17000" 1 "$t: $over" "$t" --at 17000
 refused "endless" 1 "/dev/zero: $over" /dev/zero
 
+# ---- live: the same however the input is cut ----
+
+live_wanted() { # NUMBER RECORDS: prints what show --live must print for $t: each picture that differs from the one before, then the end
+    head -c $((4 * $2)) "$t" >"$work/taken"
+    : >"$work/last"
+    n=0
+    while [ "$n" -le "$2" ]; do
+        "$show" "$work/taken" --at "$n" >"$work/now"
+        cmp -s "$work/now" "$work/last" || cat "$work/now"
+        mv "$work/now" "$work/last"
+        n=$((n + 1))
+    done
+    counts=$("$listing" <"$work/taken" | tail -n 1 | awk '{ print "records taken: " $3 ", reads compared: " $4 ", differing: " $5 }')
+    if [ "$1" = 0 ]; then echo "end: number 0, done, place $2; $counts"; else echo "end: number $1, refused, place $2; $counts"; fi
+}
+slowly() { # FILE SIZE: prints it in pieces of that size, with a pause after each
+    piece=0 pieces=$((($(wc -c <"$1") + $2 - 1) / $2))
+    while [ "$piece" -lt "$pieces" ]; do
+        dd if="$1" bs="$2" skip="$piece" count=1 2>/dev/null
+        sleep 0.005
+        piece=$((piece + 1))
+    done
+}
+pictures() { grep -c └ "$work/out"; } # how many whole ones the last run has drawn
+ended() { # LABEL STATUS MESSAGE: how the last run ended, and that it printed what is wanted
+    check "$1: status $status" same "$status" "$2"
+    check "$1: says '$(cat "$work/err")'" same "$(cat "$work/err")" "$3"
+    check "$1: prints something else" cmp -s "$work/out" "$work/wanted"
+}
+live() { # LABEL NUMBER RECORDS MESSAGE [SIZE...]: $t from a file, and through a pipe in pieces of these sizes; so many records are taken
+    name="live, $1" message=$4 want=$(($2 != 0))
+    live_wanted "$2" "$3" >"$work/wanted"
+    shift 4
+    run --live <"$t"; ended "$name" $want "$message"
+    for size in "$@"; do
+        slowly "$t" "$size" | { run --live; echo "$status" >"$work/status"; }
+        status=$(cat "$work/status"); ended "$name, by $size" $want "$message"
+    done
+}
+: >"$t"; live "empty" 0 0 ""
+check "live, empty: a picture and the end" same "$(wc -l <"$work/out")" 19
+
+changes() { # 13 records, six of which change the panel
+    records "2 0 AF" "3 0 01" "3 0 00" "2 0 3C" "3 0 FF" "5 0 00" "2 1 AF" "4 1 40" "4 1 41" "2 1 A5" "2 0 C1" "2 0 A1" "2 1 A4"
+}
+changes >"$t"; live "changes" 0 13 "" 1 3 5 7
+check "live, changes: pictures" same "$(pictures)" 7
+check "live, changes: end" same "$(tail -n 1 "$work/out")" "end: number 0, done, place 13; records taken: 13, reads compared: 2, differing: 1"
+for extra in 1 2 3; do
+    { changes; printf '\003\000\377' | head -c $extra; } >"$t"
+    live "cut short by $extra" 3 13 "standard input: refused: number 3, a length that is no multiple of 4 (whole records: 13)"
+done
+live "cut short" 3 13 "standard input: refused: number 3, a length that is no multiple of 4 (whole records: 13)" 5
+
+live_refused() { # NUMBER WORDS RECORD [SIZE...]: what comes after the refused record is not looked at
+    { changes; records "$3"; changes; printf '\001'; } >"$t"
+    number=$1 words=$2
+    shift 3
+    live "number $number" "$number" 13 "standard input: record 13 refused: number $number, $words" "$@"
+}
+live_refused 4 "spare line bits or the fourth byte not 0" "10 0 AF"
+live_refused 5 "a chip over 1" "2 2 AF"
+live_refused 6 "RD and WR equal" "7 0 AF"
+live_refused 7 "a byte that is no command" "2 0 80" 7
+{ changes; records "2 0 E0" "2 0 05" "3 0 FF"; } >"$t"
+live "number 8" 8 14 "standard input: record 14 refused: number 8, a column set while read-modify-write is on" 3
+
+changes_and_wait() { # all pictures must be there before the input ends; waits up to ten seconds
+    changes
+    for _ in $(seq 500); do
+        [ "$(pictures)" = 7 ] && break
+        sleep 0.02
+    done
+    pictures >"$work/early"
+}
+: >"$work/out"
+changes_and_wait | run --live
+check "live: pictures while the input is open" same "$(cat "$work/early")" 7
+
+run --live <"$example"
+check "live, example: status $status" same "$status" 0
+"$show" "$example" >"$work/wanted"
+check "live, example: last picture" same "$(tail -n 19 "$work/out" | head -n 18)" "$(cat "$work/wanted")"
+check "live, example: end" same "$(tail -n 1 "$work/out")" "end: number 0, done, place 886; records taken: 886, reads compared: 12, differing: 0"
+status_reads 80000 >"$t"
+run --live <"$t"
+check "live, 80,000 bytes: status $status" same "$status" 0
+check "live, 80,000 bytes" same "$(tail -n 1 "$work/out")" "end: number 0, done, place 20000; records taken: 20000, reads compared: 20000, differing: 0"
+
+# ---- live: input, output and arguments ----
+
+changes >"$t"
+live_failed() { # LABEL MESSAGE: the last run failed with this, and there is no end line
+    check "live, $1: status $status" same "$status" 1
+    check "live, $1: says '$(cat "$work/err")'" same "$(cat "$work/err")" "$2"
+    check "live, $1: an end" [ -z "$(grep end "$work/out")" ]
+}
+run --live <"$work"; live_failed "input a folder" "standard input: cannot be read: Is a directory"
+run --live <&-; live_failed "input closed" "standard input: cannot be read: Bad file descriptor"
+: >"$work/out"
+"$show" --live <"$t" >/dev/full 2>"$work/err"; status=$?
+live_failed "full disk" "standard output: cannot be written: No space left on device"
+"$show" --live <"$t" >&- 2>"$work/err"; status=$?
+live_failed "output closed" "standard output: cannot be written: Bad file descriptor"
+rm -f "$work/closed"
+{ until [ -e "$work/closed" ]; do sleep 0.02; done; "$show" --live <"$t" 2>"$work/err"; echo $? >"$work/status"; } | { exec <&-; : >"$work/closed"; }
+status=$(cat "$work/status"); live_failed "closed pipe" "standard output: cannot be written: Broken pipe"
+
+refused "live with a file" 2 "show: --live takes standard input and no file: \"$t\"; see show --help" --live "$t"
+refused "live after a file" 2 "show: --live takes standard input and no file: \"$t\"; see show --help" "$t" --live
+for option in --repaint --at --pbm; do
+    refused "live, $option" 2 "show: --live goes without \"$option\"; see show --help" --live $option 1
+    refused "$option, live" 2 "show: --live goes without \"$option\"; see show --help" $option 1 --live
+    refused "live as the value of $option" 2 "show: no value after \"$option\"; see show --help" $option --live
+done
+refused "live twice" 2 'show: more than one "--live"; see show --help' --live --live
+refused "live with a value" 2 'show: unknown option "--live=1"; see show --help' --live=1
+
+# On a terminal, where there is a program that makes one: over the last picture, from the upper left corner.
+if script -qec true /dev/null >/dev/null 2>&1 </dev/null; then
+    script -qec "'$show' --live <'$t'" /dev/null >"$work/screen" </dev/null
+    home=$(printf '\033[H')
+    check "live on a terminal: the first clears it" same "$(head -c 6 "$work/screen")" "$(printf '\033[H\033[J')"
+    check "live on a terminal: pictures" same "$(grep -cF "$home" "$work/screen")" 7
+    run --live <"$t"
+    sed "s/$(printf '\033')\\[[HJ]//g" "$work/screen" | tr -d '\r' >"$work/plain"
+    check "live on a terminal: else as elsewhere" cmp -s "$work/plain" "$work/out"
+fi
+
 # ---- N ----
 
 records "2 0 AF" >"$t"
@@ -385,6 +514,7 @@ for arguments in "--help" "$t --foo --help"; do
     check "$arguments: status $status" same "$status" 0
     check "$arguments: a message" [ ! -s "$work/err" ]
     check "$arguments: usage" same "$(head -n 1 "$work/out")" "Usage: show TRACE [--repaint PICTURE] [--at N] [--pbm FILE]"
+    check "$arguments: usage, live" same "$(sed -n 2p "$work/out")" "       show --live"
 done
 
 echo "show: $checks checks, $failed failed"

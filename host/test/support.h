@@ -1,6 +1,6 @@
 /*
- * What test.c, lists.c, compare.c and bench.c share: random numbers, traces, random states, the plain
- * implementation's names. Everything is static inline, so that each program takes what it needs.
+ * What test.c, lists.c, compare.c, feeds.c and bench.c share: random numbers, traces, random states, the
+ * plain implementation's names. Everything is static inline, so that each program takes what it needs.
  */
 #ifndef SUPPORT_H
 #define SUPPORT_H
@@ -28,6 +28,7 @@ enum {
     PICTURE = PEDRALUME_PICTURE_BYTES,
     REPAINT_RECORDS = PEDRALUME_REPAINT_RECORDS,
     REPAINT = PEDRALUME_REPAINT_BYTES,
+    FEED = PEDRALUME_FEED_BYTES,
     WIDTH = 122,
     HALF_WIDTH = 61
 };
@@ -41,6 +42,11 @@ typedef uint64_t paint_call(const uint8_t *, size_t, const uint8_t *, size_t, ui
 extern replay_call plain_replay;
 extern paint_call plain_frame;
 extern paint_call plain_repaint;
+typedef uint64_t open_call(uint8_t *, size_t, const uint8_t *, size_t);
+typedef uint64_t close_call(uint8_t *, size_t);
+extern open_call plain_feed_open;
+extern replay_call plain_feed_part;         /* a feed record where replay has chips */
+extern close_call plain_feed_close;
 
 /* ---- answers ---- */
 
@@ -53,6 +59,37 @@ static inline void print_answer(const char *label, uint64_t answer)
 {
     printf(" %s %u %u %u %u", label, pedralume_number(answer), pedralume_place(answer),
            pedralume_compared(answer), pedralume_differing(answer));
+}
+
+/* ---- feed records ---- */
+
+/* Writes a field of 4 bytes; pedralume_feed_field reads one. */
+static inline void set_feed_field(uint8_t *feed, unsigned at, uint32_t value)
+{
+    for (unsigned i = 0; i < 4; i++)
+        feed[at + i] = (uint8_t)(value >> 8 * i);
+}
+
+static inline void set_feed_counts(uint8_t *feed, uint32_t records, uint32_t compared, uint32_t differing)
+{
+    set_feed_field(feed, PEDRALUME_FEED_RECORDS, records);
+    set_feed_field(feed, PEDRALUME_FEED_COMPARED, compared);
+    set_feed_field(feed, PEDRALUME_FEED_DIFFERING, differing);
+}
+
+static inline void set_feed_stop(uint8_t *feed, unsigned stopped, unsigned number, uint32_t place)
+{
+    feed[PEDRALUME_FEED_STOPPED] = (uint8_t)stopped;
+    feed[PEDRALUME_FEED_NUMBER] = (uint8_t)number;
+    set_feed_field(feed, PEDRALUME_FEED_PLACE, place);
+}
+
+/* What a call of a feed gives back, taken apart. */
+static inline void print_feed_answer(const char *label, uint64_t answer)
+{
+    printf(" %s %u %lu", label, pedralume_number(answer), (unsigned long)pedralume_feed_place(answer));
+    if (answer >> 40 != 0)
+        printf(" and more above the place: %llx", (unsigned long long)answer);
 }
 
 /* ---- random numbers: splitmix64 ---- */

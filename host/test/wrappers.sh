@@ -43,6 +43,7 @@ cp target/bin/replay "$work/program"
 cp "$archive" "$work/archive"
 touch target/bin/replay "$archive"
 host/build/show examples/name.trace >"$work/shown" || exit 1
+host/build/show --live <examples/name.trace >"$work/live" || exit 1
 
 # ---- replay: good uses ----
 
@@ -126,11 +127,14 @@ rt_is "$real"
 
 # ---- show: as it is, and built anew where a source is newer ----
 
-shown() { printed "$1" "$work/shown"; called "$1" "$2"; ended "$1" 0 "${2:+show: proving and building, up to two minutes}"; } # LABEL CALLS
+shown() { printed "$1" "$work/shown"; called "$1" "$2"; ended "$1" 0 "${2:+show: proving and building, up to three minutes}"; } # LABEL CALLS
 run ./show examples/name.trace; shown "show" ""
 ln -s "$PWD/show" "$work/folder/show"
 cp examples/name.trace "$work/folder/n"
 run sh -c 'cd ../folder && ./show n'; shown "show, a link from another folder" ""
+run ./show --live <examples/name.trace; ended "show --live" 0 ""; printed "show --live" "$work/live"; called "show --live" ""
+run ./show --live examples/name.trace; ended "show --live with a file" 2 \
+    'show: --live takes standard input and no file: "examples/name.trace"; see show --help'
 run ./show; ended "show with no file" 2 'show: no file for "TRACE"; see show --help'
 ./show examples/name.trace >&- 2>"$work/err"
 status=$?; ended "show, closed output" 1 "standard output: cannot be written: Bad file descriptor"
@@ -141,6 +145,10 @@ for source in crates.txt crates/frame/src/lib.rt crates/sed1520/specs/Chip.antt;
     run ./show examples/name.trace; shown "show, newer $source" "staticlib pedralume"
     run ./show examples/name.trace; shown "show after that" ""
 done
+touch crates.txt
+rt_is "cat >/dev/null; touch $archive"
+run ./show --live <examples/name.trace; ended "show --live, built first" 0 "show: proving and building, up to three minutes"
+printed "show --live, built first" "$work/live"
 rt_is "touch $archive; sleep 0.1; touch crates/frame/src/lib.rt; sleep 0.1; touch $archive"
 touch crates.txt
 run ./show examples/name.trace; shown "show, a source changed meanwhile" "staticlib pedralume"
