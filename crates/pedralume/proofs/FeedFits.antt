@@ -2,20 +2,19 @@
 use Prim.Native.Nat.{ℕ, _+_, _*_, _/_, _<_, _≤_}
 use native.Mathlib.Omega.{arith}
 use mathlib.Core.Path.{_≡_, refl}
-use mathlib.Core.Bool.{true, not}
+use mathlib.Core.Bool.{true}
 use mathlib.Core.List.{List, []}
 use lib.Dec.{eqb}
 use lib.ListN.{length}
 use borrow.Author.Tests.{eqb-true}
 use Rattle.basics.proofs.Tests.{when}
-use Rattle.sed1520.specs.Chip.{inRange}
 use Rattle.sed1520.specs.Laws.{Whole}
 use Rattle.sed1520.specs.Panel.{panelOf}
 use Rattle.sed1520.specs.Promises.{isRecordNumber}
 use Rattle.sed1520.specs.declared.registers.Chip.{Chip}
 use Rattle.sed1520.specs.declared.verdict.Verdict.{Verdict}
 use Rattle.trace.specs.Replay.{ranOf, ranAs, ended, endedBytes}
-use Rattle.trace.specs.Feed.{begun, joinedTo, cutOff, progressWrong, feedOf, stateVerdict, partVerdict, PartOutcome, countedOn, movedOn, stoppedWith}
+use Rattle.trace.specs.Feed.{begun, joinedTo, cutOff, feedOf, stateVerdict, partVerdict, PartOutcome, countedOn, movedOn, stoppedWith}
 use Rattle.trace.specs.Feed.{openOf, openPart, partOf, openClose, closeOf}
 use Rattle.trace.specs.declared.Ran.{Ran}
 use Rattle.trace.specs.declared.progress.Ending.{Ending}
@@ -24,7 +23,7 @@ use Rattle.trace.specs.declared.progress.Progress.{Progress}
 use Rattle.trace.specs.declared.feed.Feed.{Feed}
 use Rattle.trace.specs.declared.feed.Fed.{Fed}
 use Rattle.trace.proofs.Bounds.{ran-few}
-use Rattle.trace.proofs.FeedCases.{PartRight, part-right, state-place, by-ending}
+use Rattle.trace.proofs.FeedCases.{PartRight, part-right, each-state, state-place, by-ending}
 use Rattle.trace.proofs.KeptOver.{joined-length, cut-off-length}
 use Rattle.trace.proofs.RunNumbers.{run-number, low-number}
 use Rattle.pedralume.specs.FeedRecord.{numberByte, placeOf}
@@ -44,11 +43,7 @@ abbrev FedFits : Fed → Type 0
 FedFits o = Fits (o .feed .progress)
 
 state-number : (f : Feed) → stateVerdict f .number ≤ 2
-unfolding stateVerdict
-state-number f =
-    when (λ (v : Verdict). v .number ≤ 2) (not (inRange (f .left))) (λ _. omega arith)
-    (λ _. when (λ (v : Verdict). v .number ≤ 2) (not (inRange (f .right))) (λ _. omega arith)
-    (λ _. when (λ (v : Verdict). v .number ≤ 2) (progressWrong (f .progress)) (λ _. omega arith) (λ _. omega arith)))
+state-number f = each-state (λ (v : Verdict). v .number ≤ 2) f (omega arith) (omega arith) (omega arith) (omega arith)
 
 -- counts that fit, with bytes to keep over and an ending that fit
 module _ (t : Progress) (ran : Ran) (records : t .records + ran .place < 4294967296) (compared : t .compared + ran .compared < 4294967296)

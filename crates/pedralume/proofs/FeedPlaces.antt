@@ -12,8 +12,8 @@ use Rattle.basics.proofs.Tests.{when}
 use Rattle.sed1520.specs.Panel.{panelOf}
 use Rattle.sed1520.specs.declared.registers.Chip.{Chip}
 use Rattle.sed1520.specs.declared.verdict.Verdict.{Verdict}
-use Rattle.trace.specs.Replay.{InPlace, sizesWrong}
-use Rattle.trace.specs.Feed.{begun, joinedTo, completedBy, tooMany, feedOf, stateVerdict, partVerdict, PartOutcome, movedOn}
+use Rattle.trace.specs.Replay.{InPlace}
+use Rattle.trace.specs.Feed.{begun, joinedTo, feedOf, stateVerdict, partVerdict, PartOutcome, movedOn}
 use Rattle.trace.specs.Feed.{openOf, openPart, partOf, openClose, closeOf}
 use Rattle.trace.specs.FeedInPlace.{feedIn, partInPlace}
 use Rattle.trace.specs.declared.Ran.{Ran}
@@ -24,7 +24,7 @@ use Rattle.trace.specs.declared.feed.Feed.{Feed}
 use Rattle.trace.specs.declared.feed.Fed.{Fed}
 use Rattle.trace.specs.declared.feed.FedInPlace.{FedInPlace}
 use Rattle.trace.proofs.Bounds.{ran-few}
-use Rattle.trace.proofs.FeedCases.{part-right, state-place, by-ending}
+use Rattle.trace.proofs.FeedCases.{part-right, each-part, state-place, by-ending}
 use Rattle.trace.proofs.KeptOver.{joined-length}
 use Rattle.pedralume.specs.FeedRecord.{numberByte, placeOf, wordAt, marksRight, progressIn}
 use Rattle.pedralume.specs.FeedPromises.{BytesFit, Fits}
@@ -57,11 +57,7 @@ abbrev Low : Verdict → Type 0
 Low v = v .place ≤ 3
 
 verdict-place : (f : Feed) (ram part answers : ℕ) → Low (partVerdict f ram part answers)
-unfolding partVerdict
-verdict-place f ram part answers =
-    let more = completedBy (f .progress .kept) part in
-    when Low (sizesWrong part more ram answers) (λ _. omega arith)
-    (λ _. when Low (tooMany (f .progress .records) more) (λ _. omega arith) (λ _. state-place f))
+verdict-place f ram part answers = each-part Low f ram part answers (omega arith) (omega arith) (state-place f)
 
 -- a count gone on by a run
 pub moved-records : (t : Progress) (bytes : List ℕ) (ran : Ran) → movedOn t bytes ran .records ≡ t .records + ran .place

@@ -8,6 +8,7 @@ use lib.Dec.{ltb}
 use borrow.Author.Tests.{le-ltb, ltb-false, eq-eqb, ne-eqb, not-false}
 use Rattle.basics.proofs.Tests.{neither, when}
 use Rattle.sed1520.specs.Chip.{inRange}
+use Rattle.sed1520.specs.Verdict.{verdict}
 use Rattle.sed1520.specs.declared.registers.Chip.{Chip}
 use Rattle.sed1520.specs.declared.verdict.Verdict.{Verdict}
 use Rattle.trace.specs.Replay.{sizesWrong}
@@ -64,12 +65,23 @@ right-state f s =
     rw (s .left, s .right, le-ltb 3 (t .kept) (s .few))
     (rw (le-ltb (t .records) (t .compared) (s .compared), le-ltb (t .compared) (t .differing) (s .differing)))
 
+-- what holds of each verdict that a state can have, and of each that a part can have before it
+module _ (P : Verdict → Type 0) (f : Feed) where
+  pub each-state : P (verdict 2 0) → P (verdict 2 1) → P (verdict 2 3) → P (verdict 0 0) → P (stateVerdict f)
+  unfolding stateVerdict
+  each-state left right own none =
+      when P (not (inRange (f .left))) (λ _. left)
+      (λ _. when P (not (inRange (f .right))) (λ _. right)
+      (λ _. when P (progressWrong (f .progress)) (λ _. own) (λ _. none)))
+
+  pub each-part : (ram part answers : ℕ) → P (verdict 1 0) → P (verdict 13 0) → P (stateVerdict f) → P (partVerdict f ram part answers)
+  unfolding partVerdict
+  each-part ram part answers size many state =
+      let more = completedBy (f .progress .kept) part in
+      when P (sizesWrong part more ram answers) (λ _. size) (λ _. when P (tooMany (f .progress .records) more) (λ _. many) (λ _. state))
+
 pub state-place : (f : Feed) → stateVerdict f .place ≤ 3
-unfolding stateVerdict
-state-place f =
-    when (λ (v : Verdict). v .place ≤ 3) (not (inRange (f .left))) (λ _. omega arith)
-    (λ _. when (λ (v : Verdict). v .place ≤ 3) (not (inRange (f .right))) (λ _. omega arith)
-    (λ _. when (λ (v : Verdict). v .place ≤ 3) (progressWrong (f .progress)) (λ _. omega arith) (λ _. omega arith)))
+state-place f = each-state (λ (v : Verdict). v .place ≤ 3) f (omega arith) (omega arith) (omega arith) (omega arith)
 
 module _ (f : Feed) (ram part answers : ℕ) where
   abbrev more : ℕ

@@ -2,7 +2,7 @@
 use Prim.Native.Nat.{ℕ, _+_, _-_, _*_, _/_, _%_, _≤_}
 use native.Mathlib.Omega.{arith}
 use mathlib.Core.Path.{_≡_, refl, sym, ap, _∙_}
-use mathlib.Core.Bool.{true, false, not, true≢false}
+use mathlib.Core.Bool.{true, false, true≢false}
 use mathlib.Core.List.{List, [], _++_, append-nil}
 use mathlib.Core.Logic.{⊎-elim}
 use lib.Dec.{eqb}
@@ -12,8 +12,7 @@ use borrow.Author.Tests.{eqb-true, eqb-false, eq-eqb, ne-eqb}
 use Rattle.basics.specs.Run.{Run, ranTo}
 use Rattle.basics.proofs.Lists.{flat-append}
 use Rattle.basics.proofs.Run.{run-ends, run-join, run-cut, answers-bound}
-use Rattle.basics.proofs.Tests.{tested, when}
-use Rattle.sed1520.specs.Chip.{inRange}
+use Rattle.basics.proofs.Tests.{tested}
 use Rattle.sed1520.specs.Cycle.{Reply}
 use Rattle.sed1520.specs.Laws.{Whole}
 use Rattle.sed1520.specs.Panel.{Panel, panelTurn, panelRun}
@@ -21,16 +20,16 @@ use Rattle.sed1520.specs.Records.{front, wholeRecords}
 use Rattle.sed1520.specs.declared.verdict.Verdict.{Verdict}
 use Rattle.sed1520.proofs.PanelLaws.{after-whole}
 use Rattle.sed1520.proofs.Records.{records-length}
-use Rattle.trace.specs.Replay.{comparedIn, differingIn, replyBytes, repliesBytes, ended, endedBytes, traceRun, ranOf, sizesWrong}
-use Rattle.trace.specs.Feed.{keeping, cutOff, joinedTo, completedBy, tooMany, feedOf, stateVerdict, partVerdict, PartOutcome}
-use Rattle.trace.specs.Feed.{notTaken, movedOn, tookPart, openPart, partOf, progressWrong}
+use Rattle.trace.specs.Replay.{comparedIn, differingIn, replyBytes, repliesBytes, ended, endedBytes, traceRun, ranOf}
+use Rattle.trace.specs.Feed.{keeping, cutOff, joinedTo, completedBy, feedOf, partVerdict, PartOutcome}
+use Rattle.trace.specs.Feed.{notTaken, movedOn, tookPart, openPart, partOf}
 use Rattle.trace.specs.FeedPromises.{Part, given, answersOf, refusesPart, feedAfter, fedAfter}
 use Rattle.trace.specs.declared.progress.Progress.{Progress}
 use Rattle.trace.specs.declared.progress.Ending.the-variants.{Open, Stopped}
 use Rattle.trace.specs.declared.feed.Feed.{Feed}
 use Rattle.trace.specs.declared.feed.Fed.{Fed}
 use Rattle.trace.proofs.Counts.{compared-bound, compared-join, differing-compared, differing-join, differing-front}
-use Rattle.trace.proofs.FeedCases.{StateRight, right-part}
+use Rattle.trace.proofs.FeedCases.{StateRight, right-part, each-state, each-part}
 use Rattle.trace.proofs.Joined.{replies-length}
 use Rattle.trace.proofs.KeptOver.{cut-off-length, cut-off-on, records-on, kept-back}
 
@@ -39,14 +38,9 @@ abbrev pub Refuses : Verdict → Type 0
 Refuses v = eqb (v .number) 0 ≡ false → refusesPart (v .number) ≡ true
 
 pub refuses-part : (f : Feed) (ram part answers : ℕ) → Refuses (partVerdict f ram part answers)
-unfolding partVerdict stateVerdict
 refuses-part f ram part answers =
-    let more = completedBy (f .progress .kept) part in
-    when Refuses (sizesWrong part more ram answers) (λ _ e. refl)
-    (λ _. when Refuses (tooMany (f .progress .records) more) (λ _ e. refl)
-    (λ _. when Refuses (not (inRange (f .left))) (λ _ e. refl)
-    (λ _. when Refuses (not (inRange (f .right))) (λ _ e. refl)
-    (λ _. when Refuses (progressWrong (f .progress)) (λ _ e. refl) (λ _ e. absurd (true≢false e))))))
+    each-part Refuses f ram part answers (λ _. refl) (λ _. refl)
+    (each-state Refuses f (λ _. refl) (λ _. refl) (λ _. refl) (λ e. absurd (true≢false e)))
 
 -- what a part that is taken leaves: what it gives back, the image, and its own answers
 pub record Takes (f : Feed) (ram : List ℕ) (x : Part) (before after : Run Panel Reply) (bytes : List ℕ) : Type 0 where

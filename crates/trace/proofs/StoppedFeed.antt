@@ -2,26 +2,25 @@
 use Prim.Native.Nat.{ℕ, _-_, _*_}
 use native.Mathlib.Omega.{arith}
 use mathlib.Core.Path.{_≡_, refl, sym, _∙_}
-use mathlib.Core.Bool.{true, false, not, true≢false}
+use mathlib.Core.Bool.{true, false, true≢false}
 use mathlib.Core.List.{List, [], _∷_}
 use mathlib.Core.Logic.{⊎-elim}
 use lib.Dec.{eqb}
 use lib.ListN.{length}
 use borrow.Author.Tests.{eqb-true, ne-eqb}
 use Rattle.basics.proofs.Tests.{tested, when}
-use Rattle.sed1520.specs.Chip.{inRange}
 use Rattle.sed1520.specs.Laws.{Whole}
 use Rattle.sed1520.specs.Panel.{panelOf}
 use Rattle.sed1520.specs.declared.registers.Chip.{Chip}
 use Rattle.sed1520.specs.declared.verdict.Verdict.{Verdict}
 use Rattle.trace.specs.Replay.{ReplayOutcome, ended, endedBytes, traceRun}
-use Rattle.trace.specs.Feed.{begun, joinedTo, progressWrong, feedOf, stateVerdict, partVerdict, fedWith, openOf, PartOutcome, partOutcome}
+use Rattle.trace.specs.Feed.{begun, joinedTo, feedOf, stateVerdict, partVerdict, fedWith, openOf, PartOutcome, partOutcome}
 use Rattle.trace.specs.Feed.{notTaken, movedOn, tookPart, openPart, partOf, stoppedWith, openClose, closeOf}
 use Rattle.trace.specs.FeedPromises.{Part, given, fedParts, refusesPart, StoppedRepeats, RefusedAsIfNot}
 use Rattle.trace.specs.declared.progress.Ending.the-variants.{Open, Stopped}
 use Rattle.trace.specs.declared.feed.Feed.{Feed}
 use Rattle.trace.specs.declared.feed.Fed.{Fed}
-use Rattle.trace.proofs.FeedCases.{part-right, by-ending, goes-on, closes}
+use Rattle.trace.proofs.FeedCases.{part-right, each-state, by-ending, goes-on, closes}
 use Rattle.trace.proofs.Feeding.{refuses-part}
 use Rattle.trace.proofs.RunNumbers.{own-number, run-number}
 
@@ -42,15 +41,11 @@ module _ (f : Feed) (n at : ℕ) (stopped : f .progress .ending ≡ Stopped n at
   repeats-close = rw stopped
 
 -- number 2 is the only one of a state
-pub state-two : (f : Feed) → eqb (stateVerdict f .number) 0 ≡ false → stateVerdict f .number ≡ 2
-unfolding stateVerdict
-state-two f =
-    when Two (not (inRange (f .left))) (λ _ e. refl)
-    (λ _. when Two (not (inRange (f .right))) (λ _ e. refl)
-    (λ _. when Two (progressWrong (f .progress)) (λ _ e. refl) (λ _ e. absurd (true≢false e))))
-  where
-    Two : Verdict → Type 0
-    Two v = eqb (v .number) 0 ≡ false → v .number ≡ 2
+abbrev pub Two : Verdict → Type 0
+Two v = eqb (v .number) 0 ≡ false → v .number ≡ 2
+
+pub state-two : (f : Feed) → Two (stateVerdict f)
+state-two f = each-state Two f (λ _. refl) (λ _. refl) (λ _. refl) (λ e. absurd (true≢false e))
 
 -- what a call gave back says how its feed is stopped
 abbrev Stops : Fed → Type 0
