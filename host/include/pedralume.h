@@ -11,8 +11,8 @@
  *
  * Chip 0 is the left one, chip 1 the right one.
  *
- * Words. The paper that fixes the behaviour, document 01, says "holder" for the read latch, "room"
- * for repaint's output buffer and "glass" for the panel.
+ * Words. The papers that fix the behaviour, documents 01 and 02, say "holder" for the read latch,
+ * "room" for repaint's output buffer and "glass" for the panel.
  *
  *
  * WHO OWNS WHAT
@@ -65,7 +65,7 @@
  * Commands:
  *   00-7F  column = byte; read latch stale      A0 A1  ADC forward, reverse
  *   A4 A5  static drive off, on                 A8 A9  duty 1/16, 1/32
- *   AE AF  display off, on                      B8-BB  page 0 to 3
+ *   AE AF  display off, on                      B8-BB  page 0 to 3; read latch stale
  *   C0-DF  start line 0 to 31
  *   E0     read-modify-write on, saved column = column; already on: no change
  *   E2     start line, column and page 0, read latch stale; the rest stays
@@ -74,10 +74,12 @@
  * The other 81 bytes are no command. A stale read latch keeps its byte.
  *
  * Data write: below column 80 the byte is stored and the column rises by 1; from 80 on nothing is
- * stored and the column stays.
+ * stored and the column stays. Either way the read latch becomes stale with the byte it has.
  * Data read: the answer is the read latch. Then, below column 80, the latch becomes fresh with the
  * RAM byte and the column rises by 1 unless read-modify-write is on; from 80 on the latch becomes
- * stale with the byte it has, and the column stays.
+ * stale with the byte it has, and the column stays. So the first data read after anything that makes
+ * the latch stale is empty: kind 2, a byte to throw away. Made below column 80, it loads the byte of
+ * the cell addressed, and a data read of the chip right after it gives that byte as kind 1.
  * Status read: bit 6 is 1 when ADC is forward, bit 5 is 1 when the display is off, the rest is 0.
  *
  *
@@ -87,6 +89,10 @@
  *   kind 1  a data read, read latch fresh      (compared with the trace)
  *   kind 2  a data read, read latch stale      (not compared)
  *   kind 3  a status read                      (compared with the trace)
+ * If the chips began with stale latches, as fresh chips do, and nobody else wrote to chips or RAM, a
+ * byte of kind 1 still stands in RAM when it is answered, on the page addressed: at the column before
+ * the one addressed or, loaded in read-modify-write, at that one. (E0 does not make the latch stale: a
+ * byte that was loaded before E0 is still given as kind 1 after it.)
  *
  *
  * FRAME, 488 bytes; PICTURE, 244 bytes
@@ -171,9 +177,9 @@
  *
  * Take it apart with pedralume_number, _place, _compared and _differing below; for a feed with
  * pedralume_number and pedralume_feed_place, and not with the other three. A feed's place has 32 bits,
- * and its counts so far are in its record, whatever the number. compared and differing are 0 for frame and repaint. The lowest
- * number whose cause holds is given, but 13 comes right after 1; at equal number the left chip comes
- * before the right one, and both before place 3.
+ * and its counts so far are in its record, whatever the number. For frame and repaint compared and
+ * differing are 0. The lowest number whose cause holds is given, but 13 comes right after 1; at equal
+ * number the left chip comes before the right one, and both before place 3.
  *
  *   no.  call  cause                                               place
  *    0   all   done                                                replay: records replayed;

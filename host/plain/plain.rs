@@ -117,7 +117,10 @@ impl Chip {
             0xA4 | 0xA5 => self.all_lit = byte == 0xA5,
             0xA8 | 0xA9 => self.duty_32 = byte == 0xA9,
             0xAE | 0xAF => self.display = byte == 0xAF,
-            0xB8..=0xBB => self.page = byte - 0xB8,
+            0xB8..=0xBB => {
+                self.page = byte - 0xB8;
+                self.latch_fresh = false;
+            }
             0xC0..=0xDF => self.start_line = byte - 0xC0,
             0xE0 => {
                 if !self.rmw {
@@ -142,7 +145,9 @@ impl Chip {
         Ok(())
     }
 
+    /// At any column it leaves the latch stale.
     fn write(&mut self, ram: &mut [u8; HALF_RAM], byte: u8) {
+        self.latch_fresh = false;
         if self.column < COLUMNS {
             ram[self.cell()] = byte;
             self.column += 1;

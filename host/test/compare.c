@@ -1,6 +1,7 @@
 /*
  * Drives the archive and the plain implementation side by side on random calls, and compares every
- * byte lent, guard bytes around it, and the 64-bit answers.
+ * byte lent, guard bytes around it, and the 64-bit answers. Then the archive's replay against itself,
+ * begun with other latch marks.
  *
  *   compare [seed [cases]]
  *
@@ -206,6 +207,66 @@ static void compare_replays(uint64_t seed, unsigned long cases)
     report(&contest, &tally, due);
 }
 
+/* ---- the same replay from other latch marks: kinds 1 and 2 and the counts may differ, no byte may ---- */
+
+enum { MARKED_RECORDS = 60 };
+
+struct marked {
+    uint8_t chips[CHIPS], ram[RAM], answers[2 * MARKED_RECORDS];
+};
+
+/* The other one has the left mark turned over, the right one or both. */
+static void draw_marked(struct rng *g, struct trace *t, struct marked *one, struct marked *other)
+{
+    unsigned which = between(g, 1, 3);
+    draw_chips(g, one->chips);
+    random_bytes(g, one->ram, RAM);
+    random_bytes(g, one->answers, sizeof one->answers);
+    draw_trace(t, g, one->chips, one->ram, between(g, 0, MARKED_RECORDS));
+    *other = *one;
+    for (unsigned chip = 0; chip < 2; chip++)
+        if (which >> chip & 1)
+            other->chips[CHIP * chip + PEDRALUME_LATCH_MARK] ^= 1;
+}
+
+static uint64_t replay_marked(struct marked *m, const struct trace *t)
+{
+    return pedralume_replay(m->chips, CHIPS, m->ram, RAM, t->bytes, t->len, m->answers, sizeof m->answers);
+}
+
+/* Makes both latches and all answers of kind 1 stale. */
+static void forget_marks(struct marked *m, uint64_t answer)
+{
+    m->chips[PEDRALUME_LATCH_MARK] = m->chips[CHIP + PEDRALUME_LATCH_MARK] = 0;
+    for (size_t i = 0; !leaves_all(answer) && i < pedralume_place(answer); i++)
+        if (m->answers[2 * i] == PEDRALUME_KIND_FRESH)
+            m->answers[2 * i] = PEDRALUME_KIND_STALE;
+}
+
+static void compare_marks(uint64_t seed, unsigned long cases)
+{
+    static struct trace t;
+    static struct marked one, other;
+    unsigned long kinds = 0, counts = 0;
+    for (unsigned long at = 0; at < cases; at++) {
+        struct rng g = rng_for(seed, 7, at);
+        draw_marked(&g, &t, &one, &other);
+        uint64_t got = replay_marked(&one, &t), got_other = replay_marked(&other, &t);
+        kinds += memcmp(one.answers, other.answers, sizeof one.answers) != 0;
+        counts += got >> 24 != got_other >> 24;
+        if ((got & 0xFFFFFF) != (got_other & 0xFFFFFF))
+            fail("marks", at, "number or place differs");
+        forget_marks(&one, got);
+        forget_marks(&other, got_other);
+        if (memcmp(&one, &other, sizeof one) != 0)
+            fail("marks", at, "more than the marks and kinds 1 and 2 differs");
+    }
+    printf("compare: marks: %lu traces replayed from other latch marks too; kinds differ in %lu, counts in %lu\n",
+           cases, kinds, counts);
+    if (kinds == 0 || counts == 0)
+        fail("marks", 0, "kinds or counts never differ, draw more cases");
+}
+
 #ifdef WITH_FRAME
 
 /* ---- random frames ---- */
@@ -351,6 +412,7 @@ int main(int argc, char **argv)
     unsigned long cases = argc > 2 ? strtoul(argv[2], NULL, 0) : 24000;
     printf("compare: seed %llu, %lu cases\n", (unsigned long long)seed, cases);
     compare_replays(seed, cases);
+    compare_marks(seed, cases);
 #ifdef WITH_FRAME
     compare_frames(seed, cases);
 #endif

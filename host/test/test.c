@@ -1,7 +1,7 @@
 /*
- * Walks the table of numbers and the checked examples of document 01, and the feed of document 02,
- * through the archive. What is expected is written out here from the documents, not taken from any
- * implementation; what a feed leaves is told by the archive's replays of whole records.
+ * Walks the table of numbers and the checked examples of document 01, and the feed and the stale latch
+ * of document 02, through the archive. What is expected is written out here from the documents, not
+ * taken from any implementation; what a feed leaves is told by the archive's replays of whole records.
  */
 #include "support.h"
 
@@ -197,13 +197,15 @@ static void test_mode_examples(void)
     CHECK(read_status(&r, 1) == 0x360);
 
     fresh_rig(&r);                                                  /* P6 */
+    r.ram[10] = 0x41;
     command(&r, 0, 10);
     command(&r, 0, 0xE0);
     CHECK(read_data(&r, 0) == 0x200);
-    CHECK(read_data(&r, 0) == 0x100);
-    CHECK(r.chips[PEDRALUME_COLUMN] == 10);
+    CHECK(read_data(&r, 0) == 0x141);
+    CHECK(r.chips[PEDRALUME_COLUMN] == 10 && r.chips[PEDRALUME_LATCH_MARK] == 1);
     write_data(&r, 0, 0x42);
     CHECK(r.ram[10] == 0x42 && r.chips[PEDRALUME_COLUMN] == 11);
+    CHECK(r.chips[PEDRALUME_LATCH_MARK] == 0 && r.chips[PEDRALUME_LATCH_BYTE] == 0x41);
     command(&r, 0, 0xEE);
     CHECK(r.chips[PEDRALUME_COLUMN] == 10 && r.chips[PEDRALUME_SAVED_COLUMN] == 0);
     CHECK(r.chips[PEDRALUME_RMW] == 0 && r.chips[PEDRALUME_LATCH_MARK] == 0);
@@ -231,7 +233,7 @@ static void test_byte_examples(void)
 
 /* ---- every cycle ---- */
 
-/* Does the command to the record as the table of commands says; gives the number. */
+/* Does the command to the record as the table of commands and C-12 say; gives the number. */
 static unsigned expect_command(uint8_t *chip, unsigned byte)
 {
     static const struct { uint8_t first, last, field; } set[] = {
@@ -246,6 +248,8 @@ static unsigned expect_command(uint8_t *chip, unsigned byte)
         return 8;
     if (byte <= 0x7F) {
         chip[PEDRALUME_COLUMN] = (uint8_t)byte;
+        chip[PEDRALUME_LATCH_MARK] = 0;
+    } else if (byte >= 0xB8 && byte <= 0xBB) {
         chip[PEDRALUME_LATCH_MARK] = 0;
     } else if (byte == 0xE0 && !rmw) {
         chip[PEDRALUME_RMW] = 1;
@@ -290,11 +294,12 @@ static uint8_t *address(struct rig *r, unsigned chip, unsigned page, unsigned co
     return c;
 }
 
+/* Every data write leaves the latch stale with its byte (C-12). */
 static void test_write_at(unsigned chip, unsigned page, unsigned column, bool rmw, bool fresh)
 {
     static struct rig r, want;
     address(&r, chip, page, column, rmw, fresh);
-    uint8_t *c = address(&want, chip, page, column, rmw, fresh);
+    uint8_t *c = address(&want, chip, page, column, rmw, false);
     want.answers[0] = want.answers[1] = 0;
     if (column < 80) {
         want.ram[HALF_RAM * chip + 80 * page + column] = 0x96;
@@ -324,7 +329,7 @@ static void test_all_cells(void)
 {
     for (unsigned way = 0; way < 8; way++)
         for (unsigned page = 0; page < 4; page++)
-            for (unsigned column = 0; column < 128; column += way == 0 || column > 76 ? 1 : 5) {
+            for (unsigned column = 0; column < 128; column += way == 0 || column >= 75 ? 1 : 5) {
                 test_write_at(way & 1, page, column, way & 2, way & 4);
                 test_read_at(way & 1, page, column, way & 2, way & 4);
             }
@@ -344,6 +349,51 @@ static void test_all_status(void)
         CHECK_ANSWER(replay_record(&r, PEDRALUME_STATUS_READ, chip, want.answers[1], 0), 0, 1, 1, 0);
         CHECK(same_rig(&r, &want));
     }
+}
+
+/* ---- a cursor's cell read back (C-12) ---- */
+
+/* To the left chip, each with its answer. An empty read is recorded with a byte that would differ if it were compared. */
+static const struct { uint8_t lines, data, kind, byte; } cursor[] = {
+    /* the neighbour 41, the cell 42; the latch comes to have the neighbour's byte */
+    { 2, 0xB9, 0, 0 }, { 2, 9, 0, 0 }, { 3, 0x41, 0, 0 }, { 3, 0x42, 0, 0 }, { 2, 9, 0, 0 }, { 5, 0x41, 2, 0 },
+    /* the cell after a page set */
+    { 2, 0xB9, 0, 0 }, { 5, 0x42, 2, 0x41 }, { 5, 0x42, 1, 0x42 },
+    /* the cell after a data write beside it, in read-modify-write */
+    { 2, 9, 0, 0 }, { 2, 0xE0, 0, 0 }, { 5, 0x41, 2, 0 }, { 5, 0x41, 1, 0x41 },
+    { 3, 0xBE, 0, 0 }, { 5, 0x42, 2, 0x41 }, { 5, 0x42, 1, 0x42 }, { 2, 0xEE, 0, 0 },
+    /* a data write at column 80, where there is no cell */
+    { 2, 79, 0, 0 }, { 3, 0x43, 0, 0 }, { 2, 79, 0, 0 }, { 5, 0x43, 2, 0x42 },
+    { 3, 0x44, 0, 0 }, { 5, 0x44, 2, 0x43 }, { 5, 0x44, 2, 0x43 },
+};
+
+enum { CURSOR = sizeof cursor / sizeof cursor[0] };
+
+static const struct trace *cursor_trace(void)
+{
+    static struct trace t;
+    t.len = 0;
+    for (size_t i = 0; i < CURSOR; i++)
+        put_record(&t, cursor[i].lines, 0, cursor[i].data, 0);
+    return &t;
+}
+
+static void test_cursor(void)
+{
+    static const uint8_t left[CHIP] = { 0, 0, 1, 0, 0, 1, 0, 80, 0, 0, 0x43, 0 };
+    static struct rig r, want;
+    fresh_rig(&r);
+    want = r;
+    CHECK_ANSWER(replay(&r, cursor_trace()), 0, CURSOR, 3, 0);
+    memcpy(want.chips, left, CHIP);
+    want.ram[80 + 9] = 0xBE;
+    want.ram[80 + 10] = 0x42;
+    want.ram[80 + 79] = 0x43;
+    for (size_t i = 0; i < CURSOR; i++) {
+        want.answers[2 * i] = cursor[i].kind;
+        want.answers[2 * i + 1] = cursor[i].byte;
+    }
+    CHECK(same_rig(&r, &want));
 }
 
 /* ---- numbers 4 to 8 ---- */
@@ -367,16 +417,17 @@ struct bad_record {
     uint8_t lines, chip, data, last, number;
 };
 
-/* Sent after the prelude. Those with several faults show which number comes first. */
+/* Sent after the prelude, which leaves the left latch fresh, and at once to a busy rig. Those with several faults show which number comes first. */
 static const struct bad_record bad_records[] = {
     { 0x0A, 0, 0xAF, 0, 4 }, { 0x12, 0, 0xAF, 0, 4 }, { 0x22, 0, 0xAF, 0, 4 }, { 0x42, 0, 0xAF, 0, 4 },
     { 0x82, 0, 0xAF, 0, 4 }, { 2, 0, 0xAF, 1, 4 },    { 3, 1, 0, 0x80, 4 },    { 4, 0, 0, 0xFF, 4 },
     { 8, 2, 0, 0, 4 },       { 0xFF, 0xFF, 0xFF, 0xFF, 4 },  { 2, 0, 0x80, 1, 4 },    { 0, 2, 0x05, 1, 4 },
+    { 2, 0, 0xB9, 1, 4 },    { 0x0A, 0, 0xB9, 0, 4 }, { 3, 0, 0x96, 1, 4 },    { 0x0B, 0, 0x96, 0, 4 },
     { 2, 2, 0xAF, 0, 5 },    { 3, 255, 0, 0, 5 },     { 4, 128, 0, 0, 5 },     { 5, 3, 0, 0, 5 },
-    { 0, 2, 0, 0, 5 },       { 7, 2, 0, 0, 5 },       { 2, 2, 0x80, 0, 5 },
+    { 0, 2, 0, 0, 5 },       { 7, 2, 0, 0, 5 },       { 2, 2, 0x80, 0, 5 },    { 2, 2, 0xB9, 0, 5 },
     { 0, 0, 0xAF, 0, 6 },    { 1, 1, 0, 0, 6 },       { 6, 0, 0, 0, 6 },       { 7, 1, 0, 0, 6 },
-    { 0, 0, 0x80, 0, 6 },    { 0, 0, 0x05, 0, 6 },    { 6, 0, 0x05, 0, 6 },
-    { 2, 0, 0x80, 0, 7 },    { 2, 1, 0xFF, 0, 7 },    { 2, 0, 0xA2, 0, 7 },    { 2, 1, 0xE1, 0, 7 },
+    { 0, 0, 0x80, 0, 6 },    { 0, 0, 0x05, 0, 6 },    { 6, 0, 0x05, 0, 6 },    { 6, 0, 0xB9, 0, 6 },
+    { 2, 0, 0x80, 0, 7 },    { 2, 1, 0xFF, 0, 7 },    { 2, 0, 0xA2, 0, 7 },    { 2, 1, 0xE1, 0, 7 },    { 2, 0, 0xBC, 0, 7 },
     { 2, 0, 0x00, 0, 8 },    { 2, 0, 0x05, 0, 8 },    { 2, 0, 0x7F, 0, 8 },
 };
 
@@ -1266,6 +1317,20 @@ static void test_feed_steps(void)
     }
 }
 
+/* The cursor's trace in two parts, cut everywhere. */
+static void test_feed_cursor(void)
+{
+    const struct trace *t = cursor_trace();
+    static struct intake n;
+    for (size_t cut = 0; cut <= t->len; cut++) {
+        open_intake(&n);
+        take_and_check(&n, t, 0, cut);
+        take_and_check(&n, t, cut, t->len);
+        CHECK(pedralume_feed_compared(n.feed) == 3 && pedralume_feed_differing(n.feed) == 0);
+        CHECK_FEED(end(&n), 0, CURSOR);
+    }
+}
+
 /* The prelude, a bad record and two more, in two parts: stopped at the bad one, what comes after it not looked at. */
 static void test_feed_refused_at(const struct trace *t, size_t cut, unsigned number)
 {
@@ -1609,6 +1674,7 @@ static void test_feeds(void)
     test_open_refused();
     test_feed_cuts();
     test_feed_steps();
+    test_feed_cursor();
     test_feed_refused();
     test_part_lengths();
     test_bad_feeds();
@@ -1635,6 +1701,7 @@ static void test_replays(void)
     test_all_commands();
     test_all_cells();
     test_all_status();
+    test_cursor();
     test_refused_records();
     test_first_refusal_wins();
     test_bad_lengths();

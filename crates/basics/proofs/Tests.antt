@@ -32,6 +32,14 @@ pub when : {A : Type 0} (P : A → Type 0) (t : Bool) {a b : A} → (t ≡ true 
 when P true pass fail = pass refl
 when P false pass fail = fail refl
 
+-- so with two choices by tests that agree
+pub when-both : {A B : Type 0} (P : A → B → Type 0) (s t : Bool) → s ≡ t → {a b : A} {c d : B} → (s ≡ true → P a c) → (s ≡ false → P b d)
+    → P (if s a b) (if t c d)
+when-both P true true e pass fail = pass refl
+when-both P true false e pass fail = absurd (true≢false e)
+when-both P false true e pass fail = absurd (false≢true e)
+when-both P false false e pass fail = fail refl
+
 -- two values of which one was replaced: the one that was, and the other
 pub own-choice : {A : Type 0} (t : Bool) (new left right : A) → if t (if t new left) (if t right new) ≡ new
 own-choice true new left right = refl

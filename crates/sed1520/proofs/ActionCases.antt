@@ -40,7 +40,7 @@ module _ (b : ℕ) (c : Chip) where
 module _ (c : Chip) (ram : List ℕ) where
   module _ (room : c .column < 80) where
     pub data-write-stored : (b : ℕ)
-        → dataWrite b c ram ≡ outcome (answered 0 0 (withColumn (c .column + 1) c)) (set ram (ramIndex (c .page) (c .column)) b)
+        → dataWrite b c ram ≡ outcome (answered 0 0 (staled (withColumn (c .column + 1) c))) (set ram (ramIndex (c .page) (c .column)) b)
     unfolding dataWrite
     data-write-stored b = rw (lt-ltb (c .column) 80 room)
 
@@ -55,7 +55,7 @@ module _ (c : Chip) (ram : List ℕ) where
     after-read-counted off = rw (lt-ltb (c .column) 80 room, off)
 
   module _ (stopped : 80 ≤ c .column) where
-    pub data-write-stopped : (b : ℕ) → dataWrite b c ram ≡ outcome (answered 0 0 c) ram
+    pub data-write-stopped : (b : ℕ) → dataWrite b c ram ≡ outcome (answered 0 0 (staled c)) ram
     unfolding dataWrite
     data-write-stopped b = rw (le-ltb (c .column) 80 stopped)
 

@@ -2,27 +2,22 @@
 use Prim.Native.Nat.{ℕ, _+_, _<_}
 use native.Mathlib.Omega.{arith}
 use mathlib.Core.Path.{_≡_, refl}
-use mathlib.Core.Bool.{not, _||_}
 use mathlib.Core.List.{List}
-use mathlib.Core.Option.{Option, none, some}
-use lib.Dec.{ltb, leb, eqb}
+use lib.Dec.{ltb}
 use lib.ListN.{length, length-set}
 use borrow.Author.Needs.{needs}
 use borrow.Author.Tests.{ltb-true}
 use Rattle.basics.specs.Choice.{if}
-use Rattle.sed1520.specs.Chip.{inRange, withColumn}
-use Rattle.sed1520.specs.Command.{count, decodeOf}
+use Rattle.sed1520.specs.Command.{count}
 use Rattle.sed1520.specs.Memory.{ramIndex}
-use Rattle.sed1520.specs.Cycle.{outcome, refusal, answered, execute, columnLocked, executed, commandWrite, dataWrite, afterRead, dataRead}
-use Rattle.sed1520.specs.Cycle.{writeLine, addressLine, actionOf, busRefusal, stepOf, cycleOf}
+use Rattle.sed1520.specs.Cycle.{outcome, refusal, answered, execute, dataWrite, afterRead, dataRead, cycleOf}
 use Rattle.sed1520.specs.Promises.{Keeps, EveryCycleKeeps}
 use Rattle.sed1520.specs.declared.registers.Chip.{Chip}
 use Rattle.sed1520.specs.declared.commands.Kind.{Kind}
 use Rattle.sed1520.specs.declared.commands.Kind.the-variants.{Display, StartLine, Page, Column, Adc, Static, Duty, Modify, End, Reset}
-use Rattle.sed1520.specs.declared.commands.Command.{Command}
 use Rattle.sed1520.specs.declared.bus.Record.{Record}
 use Rattle.sed1520.proofs.ChipRange.{Ranges, ranges, in-range}
-use Rattle.sed1520.proofs.OneRule.{told-place}
+use Rattle.sed1520.proofs.EachWay.{each-cycle}
 use Rattle.basics.proofs.Tests.{when}
 
 -- the registers after an accepted command are in range
@@ -49,14 +44,6 @@ module _ (c : Chip) (ram : List ℕ) where
   refusal-keeps : (n : ℕ) → Keeps c ram (outcome (refusal n c) ram)
   refusal-keeps n = record { place = refl; same-size = refl; range = λ e. e; refused = λ h. refl }
 
-  executed-keeps : (b : ℕ) (o : Option Command) → ((m : Command) → o ≡ some m → m .argument < count (m .kind))
-      → Keeps c ram (outcome (executed b o c) ram)
-  executed-keeps b none h = refusal-keeps 7
-  executed-keeps b (some m) h =
-      when (λ a. Keeps c ram (outcome a ram)) (columnLocked b c)
-      (λ _. refusal-keeps 8)
-      (λ _. done-keeps 0 0 (execute (m .kind) (m .argument) c) ram (execute-ranges (m .kind) (m .argument) c (h m refl)) refl)
-
   after-read-ranges : Ranges c → Ranges (afterRead c ram)
   unfolding afterRead
   after-read-ranges r =
@@ -66,31 +53,25 @@ module _ (c : Chip) (ram : List ℕ) where
       search needs)
       (λ _. search needs)
 
-  action-keeps : (lines b : ℕ) → Keeps c ram (actionOf lines b c ram)
-  unfolding actionOf commandWrite dataWrite dataRead
-  action-keeps lines b =
-      when (Keeps c ram) (eqb (writeLine lines) 0)
-      (λ _. when (Keeps c ram) (eqb (addressLine lines) 0)
-      (λ _. executed-keeps b (decodeOf b .value) (λ m e. told-place b m e .0))
-      (λ _. when (Keeps c ram) (ltb (c .column) 80)
+  write-keeps : (b : ℕ) → Keeps c ram (dataWrite b c ram)
+  unfolding dataWrite
+  write-keeps b =
+      when (Keeps c ram) (ltb (c .column) 80)
       (λ below. let h = ltb-true (c .column) 80 below in
-      done-keeps 0 0 (withColumn (c .column + 1) c) _ (λ r. search needs) (length-set ram (ramIndex (c .page) (c .column)) b))
-      (λ _. done-keeps 0 0 c ram (λ r. r) refl)))
-      (λ _. when (Keeps c ram) (eqb (addressLine lines) 0)
-      (λ _. done-keeps 3 _ c ram (λ r. r) refl)
-      (λ _. done-keeps _ _ (afterRead c ram) ram after-read-ranges refl))
-
-  pub step-keeps : (r : Record) → Keeps c ram (stepOf r c ram)
-  unfolding stepOf
-  step-keeps r =
-      when (Keeps c ram) (eqb (busRefusal r) 0) (λ _. action-keeps (r .lines) (r .byte)) (λ _. refusal-keeps (busRefusal r))
+      done-keeps 0 0 _ _ (λ r. search needs) (length-set ram (ramIndex (c .page) (c .column)) b))
+      (λ _. done-keeps 0 0 _ ram (λ r. search needs) refl)
 
   pub cycle-keeps : (r : Record) → Keeps c ram (cycleOf r c ram)
-  unfolding cycleOf
+  unfolding dataRead
   cycle-keeps r =
-      when (Keeps c ram) (not (eqb (length ram) 320)) (λ _. refusal-keeps 1)
-      (λ _. when (Keeps c ram) (not (inRange c)) (λ _. refusal-keeps 2)
-      (λ _. step-keeps r))
+      each-cycle (λ o _. Keeps c ram o) r c c ram refl refl
+      (record {
+        refused = refusal-keeps;
+        command = λ k a h. done-keeps 0 0 (execute k a c) ram (execute-ranges k a c h) refl;
+        data-write = write-keeps;
+        status-read = done-keeps 3 _ c ram (λ h. h) refl;
+        data-read = λ _. done-keeps _ _ (afterRead c ram) ram after-read-ranges refl;
+      })
 
 pub every-cycle-keeps : EveryCycleKeeps
 every-cycle-keeps r c ram = cycle-keeps c ram r

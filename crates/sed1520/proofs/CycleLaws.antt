@@ -67,7 +67,7 @@ module _ (c : Chip) (ram : List ℕ) (fit : Fit c ram) where
     data-write : (b : ℕ) → c .column < 80
         → Accepts (sent 3 k b) c ram (registers (withColumn (c .column + 1) c)) (byteSet ram (c .page) (c .column) b)
     data-write b h =
-        accepted (sent 3 k b) (withColumn (c .column + 1) c) (byteSet ram (c .page) (c .column) b)
+        accepted (sent 3 k b) _ (byteSet ram (c .page) (c .column) b)
         (action-cycle 3 b (omega arith) (omega arith) ∙ action-data-write 3 b c ram refl ∙ data-write-stored c ram h b)
 
 pub cycle-laws : CycleLaws

@@ -4,6 +4,7 @@ pub mod ChipRange
 pub mod CommandBytes
 pub mod CycleKeeps
 pub mod CycleLaws
+pub mod EachWay
 pub mod Examples
 pub mod Flags
 pub mod OneRule

@@ -52,11 +52,11 @@ outcome a ram = record { answer = a; ram = ram }
 abbrev pub on : ℕ → Bool
 on n = not (eqb n 0)
 
--- the table of commands: what an accepted command does to the chip
+-- the table of commands: what an accepted command does to the chip; that a page set leaves the read latch stale is request C-12
 unfoldable pub execute : Kind → ℕ → Chip → Chip
 execute Display a c = withDisplay (on a) c
 execute StartLine a c = withStartLine a c
-execute Page a c = withPage a c
+execute Page a c = staled (withPage a c)
 execute Column a c = staled (withColumn a c)
 execute Adc a c = withReverse (on a) c
 execute Static a c = withStatic (on a) c
@@ -78,12 +78,12 @@ executed b (some m) c = if (columnLocked b c) (refusal 8 c) (answered 0 0 (execu
 unfoldable pub commandWrite : ℕ → Chip → Answer
 commandWrite b c = executed b (decodeOf b .value) c
 
--- a data write
+-- a data write; by request C-12 it leaves the read latch stale, below column 80 or not
 unfoldable pub dataWrite : ℕ → Chip → List ℕ → Outcome
 dataWrite b c ram =
     if (ltb (c .column) 80)
-    (outcome (answered 0 0 (withColumn (c .column + 1) c)) (byteSet ram (c .page) (c .column) b))
-    (outcome (answered 0 0 c) ram)
+    (outcome (answered 0 0 (staled (withColumn (c .column + 1) c))) (byteSet ram (c .page) (c .column) b))
+    (outcome (answered 0 0 (staled c)) ram)
 
 -- the chip after a data read
 unfoldable pub afterRead : Chip → List ℕ → Chip

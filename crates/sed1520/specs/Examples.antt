@@ -6,7 +6,7 @@ use mathlib.Core.Bool.{true}
 use mathlib.Core.List.{List, [], _∷_, _++_}
 use lib.ListN.{replicate}
 use Rattle.basics.specs.Run.{Run, ranTo, runOf}
-use Rattle.sed1520.specs.Chip.{fresh, withDisplay, withStatic, withReverse, withColumn, withStartLine}
+use Rattle.sed1520.specs.Chip.{fresh, withDisplay, withStatic, withReverse, withModify, withColumn, withStartLine}
 use Rattle.sed1520.specs.Command.{told, notTold, decodeOf}
 use Rattle.sed1520.specs.Memory.{byteSet}
 use Rattle.sed1520.specs.Cycle.{Outcome, outcome, refusal, cycleOf, Reply, ChipAndRam, chipTurn}
@@ -75,6 +75,10 @@ atLastColumn = command 79 ∷ write 0xA5 ∷ []
 abbrev pub cursor : List Record
 cursor = command 10 ∷ command 0xE0 ∷ read ∷ read ∷ write 0xFF ∷ []
 
+-- its answers: the first read has a stale latch, the second a fresh one
+abbrev pub cursorAnswers : List Reply
+cursorAnswers = wrote ∷ wrote ∷ reply 2 0 ∷ reply 1 0 ∷ wrote ∷ []
+
 -- P1 to P4, P6, P7, P10 and P11
 pub record ChipExamples : Type 0 where
   pub p1 : ran atLastColumn ≡ ranTo 0 (wrote ∷ wrote ∷ []) (chipOver (withColumn 80 fresh) (byteSet blank 0 79 0xA5))
@@ -83,8 +87,9 @@ pub record ChipExamples : Type 0 where
   pub p4-fresh : ran (status ∷ []) ≡ ranTo 0 (reply 3 0x60 ∷ []) start
   pub p4-on-reverse : ran (command 0xAF ∷ command 0xA1 ∷ status ∷ [])
       ≡ ranTo 0 (wrote ∷ wrote ∷ reply 3 0x00 ∷ []) (chipOver (withReverse true (withDisplay true fresh)) blank)
-  pub p6-counted : (ran cursor .number ≡ 0) × (ran cursor .state .chip .column ≡ 11)
-  pub p6-returned : (ran (cursor ++ (command 0xEE ∷ [])) .number ≡ 0) × (ran (cursor ++ (command 0xEE ∷ [])) .state .chip .column ≡ 10)
+  pub p6-counted : ran cursor ≡ ranTo 0 cursorAnswers (chipOver (withModify true 10 (withColumn 11 fresh)) (byteSet blank 0 10 0xFF))
+  pub p6-returned : ran (cursor ++ (command 0xEE ∷ []))
+      ≡ ranTo 0 (cursorAnswers ++ (wrote ∷ [])) (chipOver (withColumn 10 fresh) (byteSet blank 0 10 0xFF))
   pub p7-on : ran (command 0xE0 ∷ []) .number ≡ 0
   pub p7 : let s = ran (command 0xE0 ∷ []) .state in cycled s (command 0x05) ≡ refused s 8
   pub p10-80 : (cycled start (command 0x80) ≡ refused start 7) × (decodeOf 0x80 ≡ notTold 0x80)

@@ -34,9 +34,9 @@ pub record Acted : Type 0 where
 abbrev pub acted : BareAnswer → List ℕ → List ℕ → Acted
 acted a chips ram = record { answer = a; chips = chips; ram = ram }
 
--- a data write stores the column
+-- a data write stores the column and the read latch's mark; the latch keeps its byte
 abbrev pub writeBytes : List ℕ → Chip → List ℕ
-writeBytes b next = set b 7 (next .column)
+writeBytes b next = set (set b 7 (next .column)) 9 (mark (next .latch))
 
 -- a data read stores the column and the read latch
 abbrev pub readBytes : List ℕ → Chip → List ℕ

@@ -68,16 +68,17 @@ impl Chip {
         Answer::done(0, 0, self.execute(command))
     }
 
-    // A data write. From column 80 on nothing is stored.
-    pub(crate) fn data_write(mut self, byte: u8, ram: &mut [u8]) -> Answer
+    // A data write. It leaves the latch stale at any column; from column 80 on nothing is stored.
+    pub(crate) fn data_write(self, byte: u8, ram: &mut [u8]) -> Answer
         ensures { λ r. ⌜ outcome r (now (ram .exit)) ≡ dataWrite byte self (now (ram .entry)) ⌝ }
     {
+        let mut next = self.staled();
         if Chip::COLUMN_STOP <= self.column {
-            return Answer::done(0, 0, self);
+            return Answer::done(0, 0, next);
         }
         store(ram, self.page, self.column, byte);
-        self.column += 1;
-        Answer::done(0, 0, self)
+        next.column = self.column + 1;
+        Answer::done(0, 0, next)
     }
 
     // The chip after a data read: below column 80 the latch is loaded from the addressed byte and the column counted

@@ -51,7 +51,10 @@ impl Chip {
         match kind {
             Kind::Display => self.display_on = argument != 0,
             Kind::StartLine => self.start_line = argument,
-            Kind::Page => self.page = argument,
+            Kind::Page => {
+                self.page = argument;
+                return self.staled();
+            }
             Kind::Column => {
                 self.column = argument;
                 return self.staled();

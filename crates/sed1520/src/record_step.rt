@@ -45,7 +45,7 @@ fn refused(number: u8) -> BareAnswer
     }
 }
 
-// A data write: the column alone can change.
+// A data write: the column and the read latch's mark. The latch keeps its byte.
 fn write_data(bytes: &mut [u8], byte: u8, ram: &mut [u8]) -> BareAnswer
     requires { ⌜ length (now bytes) ≡ 12 ⌝ }
     ensures { λ r. ⌜ acted r (now (bytes .exit)) (now (ram .exit))
@@ -53,7 +53,9 @@ fn write_data(bytes: &mut [u8], byte: u8, ram: &mut [u8]) -> BareAnswer
 {
     let answer = registers_in(bytes).data_write(byte, ram);
     let next = answer.chip;
+    let stale = next.latch;
     bytes[7] = next.column;
+    bytes[9] = mark(stale);
     bare(answer)
 }
 

@@ -1,5 +1,5 @@
-// Runs the worked sequences of the sheet and document 01's listing through the cycle and checks every number, kind and
-// byte that it answers.
+// Runs the sheet's worked sequences, request C-12's, refused records and document 01's listing through the cycle, and checks
+// every number, kind and byte that it answers.
 ghost use Prim.Native.Nat.{_≤_};
 ghost use mathlib.Core.Path.{_≡_};
 ghost use lib.ListN.{length};
@@ -13,7 +13,8 @@ use sed1520::registers::Chip;
 const ROW: usize = 7;
 
 // 4.11, 4.12: a blinking cursor. Two bytes at page 1, column 10; read-modify-write on, the empty read, the read,
-// the byte inverted and written back, the next byte read; the end returns to column 10, where the cursor now stands.
+// the byte inverted and written back, the next byte read after an empty read; the end returns to column 10, where the
+// cursor now stands.
 const CURSOR_BLINK: [u8; 105] = *b"\
     \x02\x00\xB9\x00\x00\x00\x00\
     \x02\x00\x0A\x00\x00\x00\x00\
@@ -24,12 +25,48 @@ const CURSOR_BLINK: [u8; 105] = *b"\
     \x05\x00\x00\x00\x00\x02\x00\
     \x05\x00\x00\x00\x00\x01\x3C\
     \x03\x00\xC3\x00\x00\x00\x00\
-    \x05\x00\x00\x00\x00\x01\x3C\
+    \x05\x00\x00\x00\x00\x02\x3C\
     \x05\x00\x00\x00\x00\x01\x81\
     \x02\x00\xEE\x00\x00\x00\x00\
     \x05\x00\x00\x00\x00\x02\x81\
     \x05\x00\x00\x00\x00\x01\xC3\
     \x05\x00\x00\x00\x00\x01\x81";
+
+// Request C-12: a cursor's cell (7F at page 1, column 21) read back in read-modify-write, after a page set from the letter
+// above it (3E), and after the letter beside it (41) is written back inverted. Each time the first read still answers the
+// neighbour's letter, but as kind 2, an empty read; the second answers the cell's byte, kind 1. A write at column 80 stores
+// nothing, and the read after it is empty too.
+const CURSOR_READ_BACK: [u8; 210] = *b"\
+    \x02\x00\xB8\x00\x00\x00\x00\
+    \x02\x00\x15\x00\x00\x00\x00\
+    \x03\x00\x3E\x00\x00\x00\x00\
+    \x02\x00\xB9\x00\x00\x00\x00\
+    \x02\x00\x14\x00\x00\x00\x00\
+    \x03\x00\x41\x00\x00\x00\x00\
+    \x03\x00\x7F\x00\x00\x00\x00\
+    \x02\x00\xB8\x00\x00\x00\x00\
+    \x02\x00\x15\x00\x00\x00\x00\
+    \x02\x00\xE0\x00\x00\x00\x00\
+    \x05\x00\x00\x00\x00\x02\x00\
+    \x05\x00\x00\x00\x00\x01\x3E\
+    \x02\x00\xB9\x00\x00\x00\x00\
+    \x05\x00\x00\x00\x00\x02\x3E\
+    \x05\x00\x00\x00\x00\x01\x7F\
+    \x02\x00\xEE\x00\x00\x00\x00\
+    \x02\x00\x14\x00\x00\x00\x00\
+    \x02\x00\xE0\x00\x00\x00\x00\
+    \x05\x00\x00\x00\x00\x02\x7F\
+    \x05\x00\x00\x00\x00\x01\x41\
+    \x03\x00\xBE\x00\x00\x00\x00\
+    \x05\x00\x00\x00\x00\x02\x41\
+    \x05\x00\x00\x00\x00\x01\x7F\
+    \x02\x00\xEE\x00\x00\x00\x00\
+    \x02\x00\x4F\x00\x00\x00\x00\
+    \x03\x00\x66\x00\x00\x00\x00\
+    \x02\x00\x4F\x00\x00\x00\x00\
+    \x05\x00\x00\x00\x00\x02\x7F\
+    \x03\x00\x55\x00\x00\x00\x00\
+    \x05\x00\x00\x00\x00\x02\x66";
 
 // 4.4, 4.7: after a column set the first read is empty; then the bytes come in rising column.
 const EMPTY_READ: [u8; 77] = *b"\
@@ -104,8 +141,9 @@ const STATUS_AND_DIRECTION: [u8; 105] = *b"\
     \x04\x00\x00\x00\x00\x03\x60";
 
 // Refused records answer kind 0, byte 0 and change nothing: a column set in read-modify-write, bytes that are no command,
-// strobes that are equal, a chip that is not there, a spare line.
-const REFUSALS: [u8; 112] = *b"\
+// strobes that are equal, a chip that is not there, a spare line, a fourth byte that is not 0. At the end the latch is fresh,
+// and a page that is not there and refused data writes leave it so.
+const REFUSALS: [u8; 140] = *b"\
     \x02\x00\x07\x00\x00\x00\x00\
     \x02\x00\xE0\x00\x00\x00\x00\
     \x02\x00\x05\x00\x08\x00\x00\
@@ -121,7 +159,11 @@ const REFUSALS: [u8; 112] = *b"\
     \x03\x00\x99\x00\x00\x00\x00\
     \x02\x00\xEE\x00\x00\x00\x00\
     \x05\x00\x00\x00\x00\x02\x00\
-    \x05\x00\x00\x00\x00\x01\x99";
+    \x05\x00\x00\x00\x00\x01\x99\
+    \x02\x00\xBC\x00\x07\x00\x00\
+    \x0B\x00\x55\x00\x04\x00\x00\
+    \x03\x00\x55\x01\x04\x00\x00\
+    \x05\x00\x00\x00\x00\x01\x00";
 
 // The listing of document 01.
 const LISTING: [u8; 63] = *b"\
@@ -131,9 +173,9 @@ const LISTING: [u8; 63] = *b"\
     \x03\x00\x3C\x00\x00\x00\x00\
     \x02\x00\x4F\x00\x00\x00\x00\
     \x05\x00\x00\x00\x00\x02\x00\
-    \x05\x00\x00\x00\x00\x01\xA5\
-    \x05\x00\x00\x00\x00\x02\xA5\
-    \x04\x00\x00\x00\x00\x03\x60";
+    \x05\x00\xA5\x00\x00\x01\xA5\
+    \x05\x00\xA5\x00\x00\x02\xA5\
+    \x04\x00\xA0\x00\x00\x03\x60";
 
 // Whether a row says what its record's cycle answered.
 fn row_agrees(row: &[u8], answer: Answer) -> bool
@@ -177,6 +219,7 @@ fn agrees(rows: &[u8]) -> bool
 
 fn main() {
     check::expect(agrees(&CURSOR_BLINK));
+    check::expect(agrees(&CURSOR_READ_BACK));
     check::expect(agrees(&EMPTY_READ));
     check::expect(agrees(&COUNTING_STOP));
     check::expect(agrees(&RESET));
