@@ -1,9 +1,10 @@
--- The laws of a run: record by record, of two lists joined, of the first k records, of where it ends and why, and of what holds at every stop.
+-- The laws of a run: record by record, of two lists joined, of the first k records, of where it ends and why, of what holds at every stop, and of two
+-- runs that stay alike.
 use Prim.Native.Nat.{ℕ, zero, suc, _+_, _-_, _<_, _≤_}
 use native.Mathlib.Omega.{arith}
 use mathlib.Core.Path.{_≡_, refl, sym, ap, _∙_}
 use mathlib.Core.Bool.{true, false, true≢false}
-use mathlib.Core.List.{List, [], _∷_, _++_, append-nil}
+use mathlib.Core.List.{List, [], _∷_, _++_, append-nil, map}
 use mathlib.Core.Logic.{⊎-elim}
 use lib.Dec.{eqb, leb}
 use lib.ListN.{length, getD, take, length-append}
@@ -232,3 +233,30 @@ module _ {S R A : Type 0} (step : S → R → Turn S A) where
   accepted-at none (r ∷ rs) s done (suc k) h =
       let t = first-accepted s r rs done in
       rw (run-accepted s r (take k rs) t) (accepted-at none rs (step s r .next) (rw (run-accepted s r rs t) at done) k (omega arith))
+
+-- two steps whose states stay alike, and which give each record the same number and answers that look the same
+module _ {S T R A L : Type 0} (step : S → R → Turn S A) (other : T → R → Turn T A) (Like : S → T → Type 0) (look : A → L) where
+  -- what they give one record
+  pub record AlikeTurns (s : S) (t : T) (r : R) : Type 0 where
+    pub number : step s r .number ≡ other t r .number
+    pub answer : look (step s r .answer) ≡ look (other t r .answer)
+    pub next : Like (step s r .next) (other t r .next)
+
+  -- what their runs come to
+  pub record AlikeRuns (a : Run S A) (b : Run T A) : Type 0 where
+    pub number : a .number ≡ b .number
+    pub answers : map look (a .answers) ≡ map look (b .answers)
+    pub state : Like (a .state) (b .state)
+
+  pub run-alike : ((s : S) (t : T) → Like s t → (r : R) → AlikeTurns s t r) → (rs : List R) (s : S) (t : T) → Like s t
+      → AlikeRuns (runOf step s rs) (runOf other t rs)
+  run-alike turns [] s t like = rw (run-none step s, run-none other t) (record { number = refl; answers = refl; state = like })
+  run-alike turns (r ∷ rs) s t like =
+      let turn = turns s t like r in
+      ⊎-elim
+      (λ e. let rest = run-alike turns rs (step s r .next) (other t r .next) (turn .next) in
+      rw (run-accepted step s r rs e, run-accepted other t r rs (rw (turn .number) at e))
+      (record { number = rest .number; answers = rw (turn .answer, rest .answers); state = rest .state }))
+      (λ e. rw (run-refused step s r rs e, run-refused other t r rs (rw (turn .number) at e))
+      (record { number = turn .number; answers = refl; state = like }))
+      (tested (eqb (step s r .number) 0))

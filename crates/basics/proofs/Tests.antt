@@ -40,6 +40,11 @@ when-both P true false e pass fail = absurd (true≢false e)
 when-both P false true e pass fail = absurd (false≢true e)
 when-both P false false e pass fail = fail refl
 
+-- a function of a choice
+pub choice-of : {A B : Type 0} (f : A → B) (t : Bool) (a b : A) → if t (f a) (f b) ≡ f (if t a b)
+choice-of f true a b = refl
+choice-of f false a b = refl
+
 -- two values of which one was replaced: the one that was, and the other
 pub own-choice : {A : Type 0} (t : Bool) (new left right : A) → if t (if t new left) (if t right new) ≡ new
 own-choice true new left right = refl

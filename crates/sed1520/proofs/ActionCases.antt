@@ -1,16 +1,17 @@
 -- The actions of a chip by their cases, as equations.
 use Prim.Native.Nat.{ℕ, _+_, _<_, _≤_, zero-le}
-use mathlib.Core.Path.{_≡_}
+use mathlib.Core.Path.{_≡_, refl}
 use mathlib.Core.Bool.{true, false, and-false}
 use mathlib.Core.List.{List}
 use mathlib.Core.Option.{none, some}
-use lib.Dec.{leb}
+use lib.Dec.{ltb, leb}
 use lib.ListN.{getD, set}
 use borrow.Author.Tests.{lt-ltb, le-ltb, le-leb}
-use Rattle.sed1520.specs.Chip.{staled, withColumn, withLatch}
+use Rattle.basics.proofs.Tests.{when}
+use Rattle.sed1520.specs.Chip.{stale, staled, withColumn, withLatch}
 use Rattle.sed1520.specs.Command.{decodeOf, toldCommand}
 use Rattle.sed1520.specs.Memory.{ramIndex}
-use Rattle.sed1520.specs.Cycle.{outcome, answered, execute, columnLocked, commandWrite, dataWrite, afterRead}
+use Rattle.sed1520.specs.Cycle.{Outcome, outcome, answered, execute, columnLocked, commandWrite, dataWrite, afterRead}
 use Rattle.sed1520.specs.declared.registers.Chip.{Chip}
 use Rattle.sed1520.specs.declared.registers.ReadLatch.the-variants.{Fresh}
 use Rattle.sed1520.specs.declared.commands.Command.{Command}
@@ -38,6 +39,15 @@ module _ (b : ℕ) (c : Chip) where
   unlocked-above h = rw (le-ltb b 128 h, and-false (leb 0 b))
 
 module _ (c : Chip) (ram : List ℕ) where
+  -- every data write is done, and leaves the latch stale with its byte
+  pub data-write-done : (b : ℕ) → dataWrite b c ram .answer ≡ answered 0 0 (dataWrite b c ram .answer .chip)
+  unfolding dataWrite
+  data-write-done b = when (λ (o : Outcome). o .answer ≡ answered 0 0 (o .answer .chip)) (ltb (c .column) 80) (λ _. refl) (λ _. refl)
+
+  pub data-write-stale : (b : ℕ) → dataWrite b c ram .answer .chip .latch ≡ stale (c .latch)
+  unfolding dataWrite
+  data-write-stale b = when (λ (o : Outcome). o .answer .chip .latch ≡ stale (c .latch)) (ltb (c .column) 80) (λ _. refl) (λ _. refl)
+
   module _ (room : c .column < 80) where
     pub data-write-stored : (b : ℕ)
         → dataWrite b c ram ≡ outcome (answered 0 0 (staled (withColumn (c .column + 1) c))) (set ram (ramIndex (c .page) (c .column)) b)

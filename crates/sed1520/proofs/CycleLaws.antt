@@ -1,23 +1,22 @@
 -- The laws of the records that a repaint sends: a page set, a column set, a start line set, and a data write below the last column.
-use Prim.Native.Nat.{ℕ, _+_, _<_, _≤_}
+use Prim.Native.Nat.{ℕ, _+_, _<_}
 use native.Mathlib.Omega.{arith}
-use mathlib.Core.Path.{_≡_, refl, ap, _∙_}
+use mathlib.Core.Path.{_≡_, refl, _∙_}
 use mathlib.Core.Bool.{false}
 use mathlib.Core.List.{List}
 use Rattle.sed1520.specs.Chip.{withPage, withColumn, withStartLine}
-use Rattle.sed1520.specs.Command.{first, count, Told}
+use Rattle.sed1520.specs.Command.{first, count}
 use Rattle.sed1520.specs.Memory.{byteSet}
-use Rattle.sed1520.specs.Cycle.{outcome, answered, execute, columnLocked, actionOf, cycleOf}
+use Rattle.sed1520.specs.Cycle.{outcome, answered, execute, columnLocked, cycleOf}
 use Rattle.sed1520.specs.Laws.{registers, sent, Fit, Accepts, CycleLaws}
 use Rattle.sed1520.specs.declared.registers.Chip.{Chip}
 use Rattle.sed1520.specs.declared.commands.Kind.{Kind}
 use Rattle.sed1520.specs.declared.commands.Kind.the-variants.{StartLine, Page, Column}
-use Rattle.sed1520.specs.declared.commands.Command.{Command}
 use Rattle.sed1520.specs.declared.bus.Record.{Record}
-use Rattle.sed1520.proofs.ActionCases.{command-executed, locked-below, unlocked-above, data-write-stored}
+use Rattle.sed1520.proofs.ActionCases.{locked-below, unlocked-above, data-write-stored}
 use Rattle.sed1520.proofs.CycleKeeps.{cycle-keeps}
-use Rattle.sed1520.proofs.OneRule.{decoded-argument}
-use Rattle.sed1520.proofs.StepCases.{action-command, action-data-write, not-refused, strobes-differ, step-action, cycle-step}
+use Rattle.sed1520.proofs.SentRecords.{action-cycle, command-cycle}
+use Rattle.sed1520.proofs.StepCases.{action-data-write}
 
 module _ (c : Chip) (ram : List ℕ) (fit : Fit c ram) where
   -- a cycle whose outcome is known
@@ -34,23 +33,10 @@ module _ (c : Chip) (ram : List ℕ) (fit : Fit c ram) where
       }
 
   module _ (k : ℕ) (addressed : k < 2) where
-    -- the cycle of a record whose lines ask for an action
-    action-cycle : (lines b : ℕ) → 2 ≤ lines → lines ≤ 5 → cycleOf (sent lines k b) c ram ≡ actionOf lines b c ram
-    action-cycle lines b low high =
-        let r = sent lines k b in
-        cycle-step r c ram (fit .bytes) (fit .range)
-        ∙ step-action r c ram (not-refused r (omega arith) refl addressed (strobes-differ lines low high))
-
     -- an accepted command of any kind
     command-set : (kind : Kind) (a : ℕ) → a < count kind → columnLocked (first kind + a) c ≡ false
         → Accepts (sent 2 k (first kind + a)) c ram (registers (execute kind a c)) ram
-    command-set kind a h free =
-        let b = first kind + a in
-        let known = ap (λ (t : Told Command). t .value) (decoded-argument kind a h) in
-        accepted (sent 2 k b) (execute kind a c) ram
-        (action-cycle 2 b (omega arith) (omega arith)
-        ∙ action-command 2 b c ram refl
-        ∙ ap (λ x. outcome x ram) (command-executed b c (record { kind = kind; argument = a }) known free))
+    command-set kind a h free = accepted (sent 2 k (first kind + a)) (execute kind a c) ram (command-cycle c ram fit k addressed kind a h free)
 
     page-set : (n : ℕ) → n < 4 → Accepts (sent 2 k (first Page + n)) c ram (registers (withPage n c)) ram
     unfolding execute
@@ -68,7 +54,7 @@ module _ (c : Chip) (ram : List ℕ) (fit : Fit c ram) where
         → Accepts (sent 3 k b) c ram (registers (withColumn (c .column + 1) c)) (byteSet ram (c .page) (c .column) b)
     data-write b h =
         accepted (sent 3 k b) _ (byteSet ram (c .page) (c .column) b)
-        (action-cycle 3 b (omega arith) (omega arith) ∙ action-data-write 3 b c ram refl ∙ data-write-stored c ram h b)
+        (action-cycle c ram fit k addressed 3 b (omega arith) (omega arith) ∙ action-data-write 3 b c ram refl ∙ data-write-stored c ram h b)
 
 pub cycle-laws : CycleLaws
 cycle-laws = record { page-set = page-set; start-line-set = start-line-set; column-set = column-set; data-write = data-write }

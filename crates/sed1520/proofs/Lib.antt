@@ -1,4 +1,5 @@
 pub mod ActionCases
+pub mod BytesStay
 pub mod Cells
 pub mod ChipRange
 pub mod CommandBytes
@@ -7,13 +8,17 @@ pub mod CycleLaws
 pub mod EachWay
 pub mod Examples
 pub mod Flags
+pub mod FreshBytes
+pub mod OneEmptyRead
 pub mod OneRule
 pub mod PanelLaws
 pub mod Records
 pub mod RecordStepCases
 pub mod RecordSteps
 pub mod RecordsUndo
+pub mod SentRecords
 pub mod StepCases
+pub mod TurnsStale
 pub mod Verdicts
 pub mod WholePanel
 pub mod RecordNumbers

@@ -28,7 +28,7 @@ use Rattle.sed1520.proofs.RecordStepCases.{on-write, on-status, on-read
 use Rattle.sed1520.proofs.RecordsUndo.{record-length, read-back, marked-in, written-back, there, chip-passes, two-chips}
 use Rattle.sed1520.proofs.StepCases.{action-command, action-data-write, action-status, action-data-read}
 use Rattle.sed1520.proofs.StepCases.{asks, step-action, step-refused, cycle-step}
-use Rattle.basics.proofs.Tests.{tested, both, when}
+use Rattle.basics.proofs.Tests.{tested, both, when, choice-of}
 use Rattle.basics.proofs.Halves.{part-length, same-back, put-front, put-rear, put-length}
 
 -- an outcome of one chip as a step leaves it: the answer without its chip, and the chip as a record
@@ -100,11 +100,8 @@ module _ (r : Record) (chips ram : List ℕ) (fit : RecordsFit chips ram) where
   own-bytes = written-back own (part-length 12 (r .chip) chips (fit .records)) (own-marks .0)
 
   own-chip : chipAt (panelIn chips ram) (r .chip) ≡ ownChip
-  own-chip = rw (two-chips chips (fit .records)) (side (eqb (r .chip) 0) ∙ marked-in own (own-marks .0))
-    where
-      side : (t : Bool) → if t (chipIn (take 12 chips)) (chipIn (drop 12 chips)) ≡ chipIn (if t (take 12 chips) (drop 12 chips))
-      side true = refl
-      side false = refl
+  own-chip =
+      rw (two-chips chips (fit .records)) (choice-of chipIn (eqb (r .chip) 0) (take 12 chips) (drop 12 chips) ∙ marked-in own (own-marks .0))
 
   -- the step of the named chip's registers is the panel's outcome
   own-outcome : stepOf r ownChip ownRam ≡ outcomeOf (panelIn chips ram) r

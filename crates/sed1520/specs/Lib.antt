@@ -8,5 +8,6 @@ pub mod RecordStep
 pub mod Records
 pub mod Laws
 pub mod Promises
+pub mod LatchPromises
 pub mod Examples
 pub mod Verdict
