@@ -417,7 +417,10 @@ struct bad_record {
     uint8_t lines, chip, data, last, number;
 };
 
-/* Sent after the prelude, which leaves the left latch fresh, and at once to a busy rig. Those with several faults show which number comes first. */
+/*
+ * Sent after the prelude, which leaves the left latch fresh, and at once to a busy rig, where both are.
+ * Those with several faults show which number comes first.
+ */
 static const struct bad_record bad_records[] = {
     { 0x0A, 0, 0xAF, 0, 4 }, { 0x12, 0, 0xAF, 0, 4 }, { 0x22, 0, 0xAF, 0, 4 }, { 0x42, 0, 0xAF, 0, 4 },
     { 0x82, 0, 0xAF, 0, 4 }, { 2, 0, 0xAF, 1, 4 },    { 3, 1, 0, 0x80, 4 },    { 4, 0, 0, 0xFF, 4 },
