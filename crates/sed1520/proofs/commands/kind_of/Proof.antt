@@ -7,15 +7,14 @@ use mathlib.Core.Option.{none}
 use lib.Dec.{ltb}
 use borrow.Author.Tests.{ltb-true, ltb-false}
 use Rattle.sed1520.specs.Command.{kinds, among}
-use Rattle.sed1520.specs.declared.commands.Kind.the-variants.{Display, StartLine, Page, Column, Adc, Static, Duty, Modify, End, Reset}
 use Rattle.basics.proofs.Tests.{tested}
 use Rattle.sed1520.proofs.CommandBytes.{kind-in-range, none-between}
 use Rattle.sed1520.proofs.commands.kind_of.Statement.{statement}
 use Rattle.sed1520.proofs.commands.kind_of.Tie as tie
 
 -- from 0xE0 up: the gaps between the three commands that have no argument
-above-start-lines : (b : ℕ) → 0xE0 ≤ b → b < 256 → (b ≡ 0xE0 → ⊥) → (b ≡ 0xE2 → ⊥) → (b ≡ 0xEE → ⊥) → among kinds b ≡ none
-above-start-lines b l h e0 e2 ee =
+above-start-lines : (b : ℕ) → 0xE0 ≤ b → b < 256 → (b ≡ 0xE0 → ⊥) → (b ≡ 0xEE → ⊥) → (b ≡ 0xE2 → ⊥) → among kinds b ≡ none
+above-start-lines b l h e0 ee e2 =
     ⊎-elim
     (λ low. let p = ltb-true b 0xE2 low in none-between kinds 0xE1 0xE1 b (omega arith) (omega arith) refl)
     (λ high. let p = ltb-false b 0xE2 high in
@@ -34,20 +33,21 @@ returns-17 c =
     let others = others-at c .match .rest in
     sym (above-start-lines _ (omega arith) (omega arith) (others .0 .0 .1) (others .0 .1) (others .1))
 
+-- ten arms, each of the kind that the code gives it: 0xE0, 0xEE and 0xE2, then the ranges in rising order; then the gaps between them
 pub kind-of-spec : {M : Type 1} → statement M
 kind-of-spec =
     tie.close
     (tie.spec
-    (λ c. sym (kind-in-range Modify _ (omega arith) (omega arith)))
-    (λ c. sym (kind-in-range Reset _ (omega arith) (omega arith)))
-    (λ c. sym (kind-in-range End _ (omega arith) (omega arith)))
-    (λ c. sym (kind-in-range Column _ (omega arith) (omega arith)))
-    (λ c. sym (kind-in-range Adc _ (omega arith) (omega arith)))
-    (λ c. sym (kind-in-range Static _ (omega arith) (omega arith)))
-    (λ c. sym (kind-in-range Duty _ (omega arith) (omega arith)))
-    (λ c. sym (kind-in-range Display _ (omega arith) (omega arith)))
-    (λ c. sym (kind-in-range Page _ (omega arith) (omega arith)))
-    (λ c. sym (kind-in-range StartLine _ (omega arith) (omega arith)))
+    (λ c. sym (kind-in-range _ _ (omega arith) (omega arith)))
+    (λ c. sym (kind-in-range _ _ (omega arith) (omega arith)))
+    (λ c. sym (kind-in-range _ _ (omega arith) (omega arith)))
+    (λ c. sym (kind-in-range _ _ (omega arith) (omega arith)))
+    (λ c. sym (kind-in-range _ _ (omega arith) (omega arith)))
+    (λ c. sym (kind-in-range _ _ (omega arith) (omega arith)))
+    (λ c. sym (kind-in-range _ _ (omega arith) (omega arith)))
+    (λ c. sym (kind-in-range _ _ (omega arith) (omega arith)))
+    (λ c. sym (kind-in-range _ _ (omega arith) (omega arith)))
+    (λ c. sym (kind-in-range _ _ (omega arith) (omega arith)))
     (λ c. sym (none-between kinds 0x80 0x9F _ (omega arith) (omega arith) refl))
     (λ c. sym (none-between kinds 0xA2 0xA3 _ (omega arith) (omega arith) refl))
     (λ c. sym (none-between kinds 0xA6 0xA7 _ (omega arith) (omega arith) refl))
