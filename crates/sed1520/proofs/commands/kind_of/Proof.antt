@@ -33,7 +33,7 @@ returns-17 c =
     let others = others-at c .match .rest in
     sym (above-start-lines _ (omega arith) (omega arith) (others .0 .0 .1) (others .0 .1) (others .1))
 
--- ten arms, each of the kind that the code gives it: 0xE0, 0xEE and 0xE2, then the ranges in rising order; then the gaps between them
+-- ten arms, each of the kind that the code gives it: 0xE0, 0xEE and 0xE2, then the ranges in rising order; then the gaps, the last from 0xE0 up
 pub kind-of-spec : {M : Type 1} → statement M
 kind-of-spec =
     tie.close
