@@ -91,10 +91,10 @@ pub fn encode(command: Command) -> Encoded
     }
 }
 
-// The kind whose range has the byte, to be laid beside table 4.1 of the chip's sheet (source document 000): its commands (1) to (4)
-// and (8) to (13), in its order. The others, (5) to (7), are status and data, which A0, RD and WR tell and not the byte.
-// `0b` begins binary digits, `a..=b` is a to b with both ends, `_` is every other byte. Beside each: section 4.n, which is command
-// (n); its digits, where D and A6 to A0 are the argument's; its bytes in hex, with the numbers that they set. What D sets: effects.rt.
+// The kind of command whose range has the byte, to be compared with table 4.1 of the chip's sheet (source document 000). The table's
+// commands (1) to (4) and (8) to (13) stand in its order, each with its first and last byte in binary, or its only one; no two share
+// a byte. Beside each: section 4.n, which is command (n); the digits, of which D and the address bits A6 to A0 vary; the bytes in hex
+// and the numbers that they set. The pins A0 RD WR are at 0 1 0; status and data, (5) to (7), are told by these pins alone.
 fn kind_of(byte: u8) -> Found
     ensures { λ r. ⌜ foundKind r ≡ among kinds byte ⌝ }
 {
@@ -103,14 +103,14 @@ fn kind_of(byte: u8) -> Found
         0b1010_1110..=0b1010_1111 => Found::Of(Kind::Display), //   4.1   1 0 1 0 1 1 1 D         AE, AF
         0b1100_0000..=0b1101_1111 => Found::Of(Kind::StartLine), // 4.2   1 1 0 A4 A3 A2 A1 A0    C0 to DF (0 to 31)
         0b1011_1000..=0b1011_1011 => Found::Of(Kind::Page), //      4.3   1 0 1 1 1 0 A1 A0       B8 to BB (0 to 3)
-        0b0000_0000..=0b0111_1111 => Found::Of(Kind::Column), //    4.4   0 A6 A5 A4 A3 A2 A1 A0  00 to 7F (0 to 127; the sheet has 0 to 79)
+        0b0000_0000..=0b0111_1111 => Found::Of(Kind::Column), //    4.4   0 A6 A5 A4 A3 A2 A1 A0  00 to 7F (seven bits: 0 to 127; the sheet: 0 to 79)
         0b1010_0000..=0b1010_0001 => Found::Of(Kind::Adc), //       4.8   1 0 1 0 0 0 0 D         A0, A1
-        0b1010_0100..=0b1010_0101 => Found::Of(Kind::Static), //    4.9   1 0 1 0 0 1 0 D         A4, A5
-        0b1010_1000..=0b1010_1001 => Found::Of(Kind::Duty), //      4.10  1 0 1 0 1 0 0 D         A8, A9 (by table 4.1; 4.10 prints the code of 4.9)
+        0b1010_0100..=0b1010_0101 => Found::Of(Kind::Static), //    4.9   1 0 1 0 0 1 0 D         A4, A5 (A5 is on, by the table; 4.9 says A4)
+        0b1010_1000..=0b1010_1001 => Found::Of(Kind::Duty), //      4.10  1 0 1 0 1 0 0 D         A8, A9 (the table's code; 4.10 prints that of 4.9)
         0b1110_0000 => Found::Of(Kind::Modify), //                  4.11  1 1 1 0 0 0 0 0         E0
         0b1110_1110 => Found::Of(Kind::End), //                     4.12  1 1 1 0 1 1 1 0         EE
         0b1110_0010 => Found::Of(Kind::Reset), //                   4.13  1 1 1 0 0 0 1 0         E2
-        _ => Found::Nothing, // the other 81 bytes are no command
+        _ => Found::Nothing, // the other 81 bytes, which are no command
     }
 }
 
