@@ -5,3 +5,5 @@ pub mod Lists
 pub mod Pieces
 pub mod Filling
 pub mod Run
+pub mod Bytes
+pub mod Counts

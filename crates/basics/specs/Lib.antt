@@ -1,4 +1,6 @@
+pub mod Bytes
 pub mod Choice
+pub mod Counts
 pub mod Halves
 pub mod Lists
 pub mod Run

@@ -2,7 +2,7 @@
 -- C-12 differs from the cycle in marks alone.
 use Prim.Native.Nat.{ℕ}
 use mathlib.Core.Path.{_≡_, refl, sym, ap, _∙_}
-use mathlib.Core.Bool.{Bool, true, false, _&&_, true≢false}
+use mathlib.Core.Bool.{Bool, true, false, _&&_, false≢true}
 use mathlib.Core.List.{List}
 use mathlib.Core.Logic.{⊎-elim}
 use lib.Dec.{ltb, eqb}
@@ -79,9 +79,9 @@ module _ (c : Chip) (ram : List ℕ) where
       each-cycle Same r (staled c) c ram refl refl
       (record {
         refused = λ n. refl;
-        command = λ k a h. ap (doneWith 0 0) (executed-same k a c);
-        data-write = λ b. when-both Same (ltb (c .column) 80) _ refl (λ _. refl) (λ _. refl);
-        status-read = refl;
+        command = λ _ k a h. ap (doneWith 0 0) (executed-same k a c);
+        data-write = λ _ b. when-both Same (ltb (c .column) 80) _ refl (λ _. refl) (λ _. refl);
+        status-read = λ _. refl;
         data-read = λ _. rw (data-kind (c .latch)) (ap (doneWith 2 (latched (c .latch))) read-same);
       })
 
@@ -146,10 +146,10 @@ module _ (c : Chip) where
       each-cycle (λ o _. Kept (o .answer .chip)) r c c ram refl refl
       (record {
         refused = λ n. refl;
-        command = λ k a h. executed-kept k a;
-        data-write = λ b. rw (data-write-stale c ram b);
-        status-read = refl;
-        data-read = λ read. absurd (true≢false (sym write ∙ read));
+        command = λ _ k a h. executed-kept k a;
+        data-write = λ _ b. rw (data-write-stale c ram b);
+        status-read = λ _. refl;
+        data-read = λ read. absurd (false≢true (rw read at write));
       })
 
 a-write : (r : Record) → setsPageOrWrites r ≡ true → eqb (writeLine (r .lines)) 0 ≡ true

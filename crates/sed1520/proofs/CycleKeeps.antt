@@ -67,9 +67,9 @@ module _ (c : Chip) (ram : List ℕ) where
       each-cycle (λ o _. Keeps c ram o) r c c ram refl refl
       (record {
         refused = refusal-keeps;
-        command = λ k a h. done-keeps 0 0 (execute k a c) ram (execute-ranges k a c h) refl;
-        data-write = write-keeps;
-        status-read = done-keeps 3 _ c ram (λ h. h) refl;
+        command = λ _ k a h. done-keeps 0 0 (execute k a c) ram (execute-ranges k a c h) refl;
+        data-write = λ _. write-keeps;
+        status-read = λ _. done-keeps 3 _ c ram (λ h. h) refl;
         data-read = λ _. done-keeps _ _ (afterRead c ram) ram after-read-ranges refl;
       })
 

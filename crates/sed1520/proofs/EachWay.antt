@@ -1,12 +1,14 @@
 -- What holds of each way that a cycle can end holds of every cycle. It is said of two chips at once, which may be the same one, so that two
 -- cycles can be compared.
-use Prim.Native.Nat.{ℕ, _<_}
+use Prim.Native.Nat.{ℕ, _<_, _≤_}
+use native.Mathlib.Omega.{arith}
 use mathlib.Core.Path.{_≡_, refl, ap}
-use mathlib.Core.Bool.{false, not, _&&_}
+use mathlib.Core.Bool.{not, _&&_}
 use mathlib.Core.List.{List}
 use mathlib.Core.Option.{Option, none, some}
 use lib.Dec.{eqb}
 use lib.ListN.{length}
+use borrow.Author.Tests.{eqb-true, eqb-false}
 use Rattle.basics.proofs.Tests.{when-both}
 use Rattle.sed1520.specs.Chip.{inRange}
 use Rattle.sed1520.specs.Command.{count, within, decodeOf}
@@ -19,38 +21,48 @@ use Rattle.sed1520.specs.declared.commands.Kind.the-variants.{Column}
 use Rattle.sed1520.specs.declared.commands.Command.{Command}
 use Rattle.sed1520.specs.declared.bus.Record.{Record}
 use Rattle.sed1520.proofs.OneRule.{told-place}
+use Rattle.sed1520.proofs.StepCases.{asks}
 
--- the ways: refused, a command executed, data written, the status read, and data read, with WR not active
+-- the ways: refused, and by the control lines a command executed, data written, the status read, data read
 pub record EachWay (P : Outcome → Outcome → Type 0) (r : Record) (c d : Chip) (ram : List ℕ) : Type 0 where
   pub refused : (n : ℕ) → P (outcome (refusal n c) ram) (outcome (refusal n d) ram)
-  pub command : (k : Kind) (a : ℕ) → a < count k → P (outcome (answered 0 0 (execute k a c)) ram) (outcome (answered 0 0 (execute k a d)) ram)
-  pub data-write : (b : ℕ) → P (dataWrite b c ram) (dataWrite b d ram)
-  pub status-read : P (outcome (statusRead c) ram) (outcome (statusRead d) ram)
-  pub data-read : eqb (writeLine (r .lines)) 0 ≡ false → P (outcome (dataRead c ram) ram) (outcome (dataRead d ram) ram)
+  pub command : r .lines ≡ 2 → (k : Kind) (a : ℕ) → a < count k
+      → P (outcome (answered 0 0 (execute k a c)) ram) (outcome (answered 0 0 (execute k a d)) ram)
+  pub data-write : r .lines ≡ 3 → (b : ℕ) → P (dataWrite b c ram) (dataWrite b d ram)
+  pub status-read : r .lines ≡ 4 → P (outcome (statusRead c) ram) (outcome (statusRead d) ram)
+  pub data-read : r .lines ≡ 5 → P (outcome (dataRead c ram) ram) (outcome (dataRead d ram) ram)
 
 -- the tests of the cycle, number 2's and number 8's, have to answer the same for both chips
 module _ (P : Outcome → Outcome → Type 0) (r : Record) (c d : Chip) (ram : List ℕ) (range : inRange c ≡ inRange d) (mode : c .modify ≡ d .modify)
     (way : EachWay P r c d ram) where
-  each-command : (b : ℕ) (o : Option Command) → ((m : Command) → o ≡ some m → m .argument < count (m .kind))
+  each-command : r .lines ≡ 2 → (b : ℕ) (o : Option Command) → ((m : Command) → o ≡ some m → m .argument < count (m .kind))
       → P (outcome (executed b o c) ram) (outcome (executed b o d) ram)
-  each-command b none h = way .refused 7
-  each-command b (some m) h =
+  each-command lines b none h = way .refused 7
+  each-command lines b (some m) h =
       when-both (λ (a e : Answer). P (outcome a ram) (outcome e ram)) (columnLocked b c) (columnLocked b d) (ap (_&&_ (within Column b)) mode)
       (λ _. way .refused 8)
-      (λ _. way .command (m .kind) (m .argument) (h m refl))
+      (λ _. way .command lines (m .kind) (m .argument) (h m refl))
 
-  each-action : P (actionOf (r .lines) (r .byte) c ram) (actionOf (r .lines) (r .byte) d ram)
+  each-action : busRefusal r ≡ 0 → P (actionOf (r .lines) (r .byte) c ram) (actionOf (r .lines) (r .byte) d ram)
   unfolding actionOf commandWrite
-  each-action =
-      when-both P (eqb (writeLine (r .lines)) 0) _ refl
-      (λ _. when-both P (eqb (addressLine (r .lines)) 0) _ refl
-      (λ _. each-command (r .byte) (decodeOf (r .byte) .value) (λ m e. told-place (r .byte) m e .0))
-      (λ _. way .data-write (r .byte)))
-      (λ read. when-both P (eqb (addressLine (r .lines)) 0) _ refl (λ _. way .status-read) (λ _. way .data-read read))
+  each-action accepted =
+      let lines = r .lines in
+      let from = asks r accepted .from in
+      let to = asks r accepted .to in
+      when-both P (eqb (writeLine lines) 0) _ refl
+      (λ low. let low : lines < 4 = omega (arith, to, eqb-true (writeLine lines) 0 low) in
+      when-both P (eqb (addressLine lines) 0) _ refl
+      (λ even. each-command (omega (arith, from, low, eqb-true (addressLine lines) 0 even))
+      (r .byte) (decodeOf (r .byte) .value) (λ m e. told-place (r .byte) m e .0))
+      (λ odd. way .data-write (omega (arith, from, low, eqb-false (addressLine lines) 0 odd)) (r .byte)))
+      (λ high. let high : 4 ≤ lines = omega (arith, to, eqb-false (writeLine lines) 0 high) in
+      when-both P (eqb (addressLine lines) 0) _ refl
+      (λ even. way .status-read (omega (arith, to, high, eqb-true (addressLine lines) 0 even)))
+      (λ odd. way .data-read (omega (arith, to, high, eqb-false (addressLine lines) 0 odd))))
 
   pub each-cycle : P (cycleOf r c ram) (cycleOf r d ram)
   unfolding cycleOf stepOf
   each-cycle =
       when-both P (not (eqb (length ram) 320)) _ refl (λ _. way .refused 1)
       (λ _. when-both P (not (inRange c)) (not (inRange d)) (ap not range) (λ _. way .refused 2)
-      (λ _. when-both P (eqb (busRefusal r) 0) _ refl (λ _. each-action) (λ _. way .refused (busRefusal r))))
+      (λ _. when-both P (eqb (busRefusal r) 0) _ refl (λ t. each-action (eqb-true (busRefusal r) 0 t)) (λ _. way .refused (busRefusal r))))

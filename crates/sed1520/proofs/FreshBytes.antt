@@ -75,9 +75,9 @@ module _ (c : Chip) (ram : List ℕ) (stands : FreshStands c ram) where
       each-cycle (λ o _. FreshStands (o .answer .chip) (o .ram)) r c c ram refl refl
       (record {
         refused = λ n. stands;
-        command = λ k a h. executed-stands k a;
-        data-write = λ b x e. absurd (not-fresh (sym (data-write-stale c ram b) ∙ e));
-        status-read = stands;
+        command = λ _ k a h. executed-stands k a;
+        data-write = λ _ b x e. absurd (not-fresh (sym (data-write-stale c ram b) ∙ e));
+        status-read = λ _. stands;
         data-read = λ _. read-stands;
       })
 
@@ -92,9 +92,9 @@ fresh-answer c ram r =
     each-cycle (λ o _. o .answer .kind ≡ 1 → c .latch ≡ Fresh (o .answer .byte)) r c c ram refl refl
     (record {
       refused = λ n e. absurd (omega arith);
-      command = λ k a h e. absurd (omega arith);
-      data-write = λ b e. let written = rw (data-write-done c ram b) at e in absurd (omega arith);
-      status-read = λ e. absurd (omega arith);
+      command = λ _ k a h e. absurd (omega arith);
+      data-write = λ _ b e. let written = rw (data-write-done c ram b) at e in absurd (omega arith);
+      status-read = λ _ e. absurd (omega arith);
       data-read = λ _. by-kind (c .latch);
     })
 

@@ -5,6 +5,7 @@ pub mod ChipRange
 pub mod CommandBytes
 pub mod CycleKeeps
 pub mod CycleLaws
+pub mod CycleTouches
 pub mod EachWay
 pub mod Examples
 pub mod Flags

@@ -8,7 +8,8 @@ use mathlib.Core.Option.{Option, none, some, Option·none-ne-some as none-ne-som
 use lib.Dec.{ltb, eqb}
 use borrow.Author.Tests.{lt-ltb, le-ltb, ltb-true}
 use Rattle.sed1520.specs.Command.{first, count, kinds, among, Told, told, notTold, commandOf, decodeOf, encodeOf}
-use Rattle.sed1520.specs.Promises.{OneRule, countBelow, isCommand}
+use Rattle.basics.specs.Counts.{sumBelow, countBelow}
+use Rattle.sed1520.specs.Promises.{OneRule, isCommand}
 use Rattle.sed1520.specs.declared.commands.Kind.{Kind}
 use Rattle.sed1520.specs.declared.commands.Command.{Command}
 use Rattle.basics.proofs.Tests.{tested}
@@ -55,7 +56,7 @@ place-of : (b : ℕ) (m : Command) → decodeOf b ≡ told m → Placed m b
 place-of b m e = told-place b m (ap (λ (t : Told Command). t .value) e)
 
 exactly-175 : countBelow isCommand 256 ≡ 175
-unfolding countBelow decodeOf among
+unfolding sumBelow decodeOf among
 exactly-175 = refl
 
 refused-kind : (b : ℕ) (o : Option Kind) → eqb (commandOf b o .number) 0 ≡ false → commandOf b o ≡ notTold b

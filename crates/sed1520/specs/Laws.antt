@@ -7,7 +7,7 @@ use mathlib.Core.List.{List}
 use lib.ListN.{length}
 use Rattle.sed1520.specs.Chip.{inRange, withPage, withColumn, withStartLine}
 use Rattle.sed1520.specs.Command.{first}
-use Rattle.sed1520.specs.Memory.{byteSet}
+use Rattle.sed1520.specs.Memory.{byteAt, byteSet}
 use Rattle.sed1520.specs.Cycle.{cycleOf}
 use Rattle.sed1520.specs.Panel.{Panel}
 use Rattle.sed1520.specs.declared.registers.Chip.{Chip}
@@ -60,6 +60,18 @@ pub record Accepts (r : Record) (c : Chip) (ram : List ℕ) (next : Registers) (
   pub registers-after : registers (cycleOf r c ram .answer .chip) ≡ next
   pub ram-after : cycleOf r c ram .ram ≡ after
   pub fit : Fit (cycleOf r c ram .answer .chip) (cycleOf r c ram .ram)
+
+-- what a cycle can change of what a frame looks at, its record accepted or not: a command the registers, a data write bytes of the RAM column that
+-- the chip stands at, any other record nothing
+pub record Touches (r : Record) (c : Chip) (ram : List ℕ) : Type 0 where
+  pub registers-kept : (r .lines ≡ 2 → ⊥) → shownBy (cycleOf r c ram .answer .chip) ≡ shownBy c
+  pub ram-kept : (r .lines ≡ 3 → ⊥) → cycleOf r c ram .ram ≡ ram
+  pub columns-kept : (page column : ℕ) → column < 80 → (column ≡ c .column → ⊥)
+      → byteAt (cycleOf r c ram .ram) page column ≡ byteAt ram page column
+
+-- every cycle
+abbrev pub EveryCycleTouches : Type 0
+EveryCycleTouches = (r : Record) (c : Chip) (ram : List ℕ) → Touches r c ram
 
 -- the page set, the start line set, the column set below 80 with read-modify-write off, and the data write below column 80, on either chip
 pub record CycleLaws : Type 0 where

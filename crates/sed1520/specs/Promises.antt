@@ -1,11 +1,11 @@
 -- What is proved of the definitions beside the functions' contracts.
-use Prim.Native.Nat.{ℕ, zero, suc, _+_, _<_, _≤_}
+use Prim.Native.Nat.{ℕ, _+_, _<_, _≤_}
 use mathlib.Core.Path.{_≡_}
 use mathlib.Core.Bool.{Bool, true, false, _&&_, _||_}
 use mathlib.Core.List.{List, [], _∷_}
 use lib.Dec.{leb, eqb}
 use lib.ListN.{length, take, drop}
-use Rattle.basics.specs.Choice.{if}
+use Rattle.basics.specs.Counts.{countBelow}
 use Rattle.sed1520.specs.Chip.{inRange, fresh}
 use Rattle.sed1520.specs.ChipRecord.{chipBytes, chipsBytes, flagsRight, recordRight, chipIn, chipsOf, chipsIn, panelIn, RecordsFit}
 use Rattle.sed1520.specs.Command.{first, count, told, notTold, decodeOf, encodeOf}
@@ -16,11 +16,6 @@ use Rattle.sed1520.specs.RecordStep.{Acted, stepRecords}
 use Rattle.sed1520.specs.declared.registers.Chip.{Chip}
 use Rattle.sed1520.specs.declared.commands.Command.{Command}
 use Rattle.sed1520.specs.declared.bus.Record.{Record}
-
--- how many numbers below n pass a test
-unfoldable pub countBelow : (ℕ → Bool) → ℕ → ℕ
-countBelow test zero = 0
-countBelow test (suc n) = if (test n) 1 0 + countBelow test n
 
 -- a byte that is told as a command
 abbrev pub isCommand : ℕ → Bool
