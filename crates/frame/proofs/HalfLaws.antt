@@ -64,6 +64,7 @@ half-laws =
       column = λ c n h. column-near c n (omega arith);
       whole = frame-length;
       place = frame-at;
+      pixels = λ c d ram other n row h same. pixel-same c d ram other n same row h;
       depends = λ c d ram other n r h same. half-depends c d ram other n same r h;
       upper = half-upper;
       lower = half-lower;

@@ -1,4 +1,5 @@
 pub mod Packing
+pub mod Lines
 pub mod Segments
 pub mod Places
 pub mod FrameCases

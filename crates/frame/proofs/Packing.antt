@@ -40,23 +40,28 @@ packed-bits (suc n) f at x h =
     let more : suc n ≡ n + 1 = omega arith in
     rw (rest, more, mod-pow-add x n 1) (omega arith)
 
--- a page and the next one as one number: its bits below 8 are those of the upper page, from 8 on those of the lower one
-module _ (upper lower : ℕ) (byte : upper < 256) where
-  abbrev wide : ℕ
-  wide = upper + 256 * lower
+-- bit b of packed pixels is the b-th of them, where each is 0 or 1
+pub packed-bit : (f : ℕ → ℕ) → ((i : ℕ) → f i < 2) → (n at b : ℕ) → b < n → packedPixels f at n / 2 ^ b % 2 ≡ f (at + b)
+unfolding packedPixels
+packed-bit f small zero at b h = absurd (omega arith)
+packed-bit f small (suc n) at zero h = let e : at + 0 ≡ at = omega arith in rw e (omega (arith, small at))
+packed-bit f small (suc n) at (suc b) h =
+    let rest = packedPixels f (at + 1) n in
+    let half : (f at + 2 * rest) / 2 ≡ rest = omega (arith, small at) in
+    rw (← halved (f at + 2 * rest) b, half, ← next at b) (packed-bit f small n (at + 1) b (omega arith))
 
-  wide-upper : (k : ℕ) → k < 8 → upper / 2 ^ k % 2 ≡ wide / 2 ^ k % 2
+-- two numbers in one, the second above w bits: its bits below w are those of the first, from w on those of the second
+module _ (w wide upper lower : ℕ) (low : wide % 2 ^ w ≡ upper) (high : wide / 2 ^ w ≡ lower) where
+  pub wide-upper : (k : ℕ) → k < w → upper / 2 ^ k % 2 ≡ wide / 2 ^ k % 2
   wide-upper k h =
-      let all : 7 - k + 1 + k ≡ 8 = omega arith in
-      let low : wide % 2 ^ 8 ≡ upper = omega arith in
-      let cut = rw (all, low) at (field wide (7 - k + 1) k) in
-      rw cut (mod-mod-pow (wide / 2 ^ k) (7 - k) 1)
+      let all : w - 1 - k + 1 + k ≡ w = omega arith in
+      let cut = rw (all, low) at (field wide (w - 1 - k + 1) k) in
+      rw cut (mod-mod-pow (wide / 2 ^ k) (w - 1 - k) 1)
 
-  wide-lower : (k : ℕ) → 8 ≤ k → lower / 2 ^ (k - 8) % 2 ≡ wide / 2 ^ k % 2
+  pub wide-lower : (k : ℕ) → w ≤ k → lower / 2 ^ (k - w) % 2 ≡ wide / 2 ^ k % 2
   wide-lower k h =
-      let all : 8 + (k - 8) ≡ k = omega arith in
-      let high : wide / 2 ^ 8 ≡ lower = omega arith in
-      let cut = rw (all, high) at (shr-shr wide 8 (k - 8)) in
+      let all : w + (k - w) ≡ k = omega arith in
+      let cut = rw (all, high) at (shr-shr wide w (k - w)) in
       rw cut
 
 -- the eight lines from a line on, out of its page and the one after it, counted round
@@ -77,12 +82,12 @@ module _ (ram : List ℕ) (column line : ℕ) (near : line < 64) where
         let l = ltb-true k 8 t in
         let page : (line + i) % 32 / 8 ≡ line % 32 / 8 = omega arith in
         let bit : (line + i) % 8 ≡ k = omega arith in
-        rw (page, bit) (wide-upper upper lower byte k l))
+        rw (page, bit) (wide-upper 8 (upper + 256 * lower) upper lower (omega arith) (omega arith) k l))
         (λ t.
         let l = ltb-false k 8 t in
         let page : (line + i) % 32 / 8 ≡ (line % 32 / 8 + 1) % 4 = omega arith in
         let bit : (line + i) % 8 ≡ k - 8 = omega arith in
-        rw (page, bit) (wide-lower upper lower byte k l))
+        rw (page, bit) (wide-lower 8 (upper + 256 * lower) upper lower (omega arith) (omega arith) k l))
         (tested (ltb k 8)))
 
     pub lines-wide : packedPixels (lineBit ram column) line 8 ≡ (upper + 256 * lower) / 2 ^ (line % 8) % 256

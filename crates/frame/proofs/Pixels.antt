@@ -1,5 +1,5 @@
 -- Each pixel in its bit of its byte.
-use Prim.Native.Nat.{ℕ, zero, suc, _+_, _*_, _/_, _%_, _^_, _<_}
+use Prim.Native.Nat.{ℕ, _+_, _*_, _/_, _%_, _^_, _<_}
 use native.Mathlib.Omega.{arith}
 use mathlib.Core.Path.{_≡_}
 use mathlib.Core.Bool.{not, _&&_}
@@ -8,13 +8,13 @@ use lib.Dec.{leb}
 use Rattle.sed1520.specs.Panel.{chipAt, ramAt}
 use Rattle.sed1520.specs.declared.registers.Chip.{Chip}
 use Rattle.basics.proofs.Tests.{when}
-use Rattle.frame.specs.Frame.{segments, pixel, packedPixels, frameByte}
+use Rattle.frame.specs.Frame.{segments, pixel, frameByte}
 use Rattle.frame.specs.Laws.{EveryPixelPlaced}
-use Rattle.frame.proofs.Packing.{next, halved}
+use Rattle.frame.proofs.Packing.{packed-bit}
 use Rattle.frame.proofs.Places.{column-place, frame-at}
 
 -- a pixel is 0 or 1
-pixel-small : (c : Chip) (ram : List ℕ) (n row : ℕ) → pixel c ram n row < 2
+pub pixel-small : (c : Chip) (ram : List ℕ) (n row : ℕ) → pixel c ram n row < 2
 unfolding pixel
 pixel-small c ram n row =
     when Small (not (c .«display_on»)) (λ _. omega arith)
@@ -23,16 +23,6 @@ pixel-small c ram n row =
   where
     Small : ℕ → Type 0
     Small k = k < 2
-
--- bit b of packed pixels is the b-th of them
-packed-bit : (f : ℕ → ℕ) → ((i : ℕ) → f i < 2) → (n at b : ℕ) → b < n → packedPixels f at n / 2 ^ b % 2 ≡ f (at + b)
-unfolding packedPixels
-packed-bit f small zero at b h = absurd (omega arith)
-packed-bit f small (suc n) at zero h = let e : at + 0 ≡ at = omega arith in rw e (omega (arith, small at))
-packed-bit f small (suc n) at (suc b) h =
-    let rest = packedPixels f (at + 1) n in
-    let half : (f at + 2 * rest) / 2 ≡ rest = omega (arith, small at) in
-    rw (← halved (f at + 2 * rest) b, half, ← next at b) (packed-bit f small n (at + 1) b (omega arith))
 
 byte-bit : (c : Chip) (ram : List ℕ) (n r b : ℕ) → b < 8 → frameByte c ram n r / 2 ^ b % 2 ≡ pixel c ram n (8 * r + b)
 unfolding frameByte

@@ -2,7 +2,7 @@
 use Prim.Native.Nat.{ℕ, zero, suc, _+_, _-_, _*_, _/_, _%_, _^_}
 use mathlib.Core.Bool.{Bool, not, _&&_, _||_}
 use mathlib.Core.List.{List, _++_}
-use lib.Dec.{leb, eqb}
+use lib.Dec.{ltb, leb, eqb}
 use lib.ListN.{length}
 use Rattle.basics.specs.Choice.{if}
 use Rattle.basics.specs.Halves.{startOf}
@@ -50,6 +50,10 @@ packedPixels f row (suc n) = f row + 2 * packedPixels f (row + 1) n
 -- the byte of segment n in the eight rows from 8 r
 unfoldable pub frameByte : Chip → List ℕ → ℕ → ℕ → ℕ
 frameByte c ram n r = packedPixels (pixel c ram n) (8 * r) 8
+
+-- the 32 pixels of segment n as one number, row 0 lowest; 0 past the last segment, and over other than 320 bytes
+unfoldable pub segmentPixels : Chip → List ℕ → ℕ → ℕ
+segmentPixels c ram n = if (eqb (length ram) 320 && ltb n segments) (packedPixels (pixel c ram n) 0 32) 0
 
 -- a half of a given width in the eight rows from 8 r: the bytes of its segments in rising order
 abbrev pub halfRow : ℕ → Chip → List ℕ → ℕ → List ℕ

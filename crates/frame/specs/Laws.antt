@@ -52,6 +52,7 @@ pub record HalfLaws : Type 0 where
   pub whole : (p : Panel) → length (frameOf p) ≡ frameBytes
   pub place : (p : Panel) (chip n r : ℕ) → n < segments → r < 4
       → getD (frameOf p) (framePlace chip n r) 0 ≡ frameByte (chipAt p chip) (ramAt p chip) n r
+  pub pixels : (c d : Chip) (ram other : List ℕ) (n row : ℕ) → row < 32 → SameShown c d ram other n → pixel c ram n row ≡ pixel d other n row
   pub depends : (c d : Chip) (ram other : List ℕ) (n r : ℕ) → r < 4 → SameShown c d ram other n → frameByte c ram n r ≡ frameByte d other n r
   pub upper : (c : Chip) (ram : List ℕ) (n r : ℕ) → TwoPages c → r < 2
       → frameByte c ram n r ≡ byteAt ram (c .«start_line» / 8 + r) (columnOf c n) % 256

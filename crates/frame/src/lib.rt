@@ -1,5 +1,6 @@
 // The frame: the 488 bytes that the panel shows.
 pub mod place;
+pub mod segment;
 
 ghost use Prim.Native.Nat.{_+_, _*_, _/_, _%_, _^_, _<_, _≤_};
 ghost use mathlib.Core.Path.{_≡_};
@@ -20,7 +21,7 @@ use sed1520::verdict::Verdict;
 pub const FRAME_BYTES: usize = Chip::PANEL_WIDTH * 4;
 
 // The RAM column of a segment.
-fn column_of(chip: Chip, n: usize) -> usize
+pub(crate) fn column_of(chip: Chip, n: usize) -> usize
     requires { ⌜ n < 80 ⌝ }
     ensures { λ r. ⌜ r ≡ columnOf chip n ⌝ }
 {

@@ -1,0 +1,59 @@
+// What one segment shows, all its rows at once.
+ghost use Prim.Native.Nat.{_+_, _*_, _/_, _%_, _^_, _<_};
+ghost use mathlib.Core.Path.{_≡_};
+ghost use lib.ListN.{length};
+ghost use Rattle.frame.specs.Frame.{lineBit, packedPixels, segmentPixels};
+use crate::column_of;
+use sed1520::memory::index;
+use sed1520::registers::Chip;
+
+// Four bytes as one number, the first lowest.
+fn four_bytes(first: u8, second: u8, third: u8, fourth: u8) -> u32
+    ensures { λ r. ⌜ r ≡ first + 0x100 * second + 0x10000 * third + 0x1000000 * fourth ⌝ }
+{
+    (first as u32)
+        + 0x100 * (second as u32)
+        + 0x1_0000 * (third as u32)
+        + 0x100_0000 * (fourth as u32)
+}
+
+// The four pages of a column as one number, line 0 lowest.
+fn column_lines(ram: &[u8], column: usize) -> u32
+    requires { ⌜ length (now ram) ≡ 320 ⌝ }
+    requires { ⌜ column < 80 ⌝ }
+    ensures { λ r. ⌜ r ≡ packedPixels (lineBit (now (ram .entry)) column) 0 32 ⌝ }
+{
+    let first = index(0, column as u8);
+    let second = index(1, column as u8);
+    let third = index(2, column as u8);
+    let fourth = index(3, column as u8);
+    four_bytes(ram[first], ram[second], ram[third], ram[fourth])
+}
+
+// 32 lines turned so that they begin at a line, those before it at the end.
+fn turned(lines: u32, line: u8) -> u32
+    ensures { λ r. ⌜ r ≡ (lines + 2 ^ 32 * lines) / 2 ^ (line % 32) % 2 ^ 32 ⌝ }
+{
+    let twice = (lines as u64) + 0x1_0000_0000 * (lines as u64);
+    ((twice >> (line % 32)) % 0x1_0000_0000) as u32
+}
+
+// The 32 pixels of a segment, row 0 lowest. Past the last segment, and over other than 320 bytes, there is none to show.
+pub fn segment_pixels(chip: Chip, ram: &[u8], n: usize) -> u32
+    ensures { λ r. ⌜ r ≡ segmentPixels chip (now (ram .entry)) n ⌝ }
+{
+    if ram.len() != Chip::RAM_WIDTH {
+        return 0;
+    }
+    if Chip::SEGMENTS <= n {
+        return 0;
+    }
+    if !chip.display_on {
+        return 0;
+    }
+    if chip.static_on {
+        return 0xFFFF_FFFF;
+    }
+    let shown = turned(column_lines(ram, column_of(chip, n)), chip.start_line);
+    if chip.duty_32 { shown } else { shown % 0x1_0000 }
+}
