@@ -15,6 +15,7 @@ use Rattle.sed1520.specs.declared.registers.Chip.{Chip}
 use Rattle.frame.specs.Frame.{columnOf, lineBit, pixel, frameByte}
 use Rattle.frame.specs.Laws.{SameShown, TwoPages, HalfLaws}
 use Rattle.frame.proofs.Packing.{packed-same, packed-bits}
+use Rattle.frame.proofs.Pixels.{byte-bit}
 use Rattle.frame.proofs.Places.{frame-length, frame-at}
 use Rattle.frame.proofs.Segments.{column-near, segment-byte}
 
@@ -31,6 +32,12 @@ abbrev showing : ShownRegisters → Chip
 showing s =
     withStartLine (s .line) (withReverse (s .reverse) (withDuty (s .duty) (withStatic (s .static) (withDisplay (s .display) fresh))))
 
+half-by-pixels : (c d : Chip) (ram other : List ℕ) (n : ℕ) → ((row : ℕ) → row < 32 → pixel c ram n row ≡ pixel d other n row)
+    → (r : ℕ) → r < 4 → frameByte c ram n r ≡ frameByte d other n r
+unfolding frameByte
+half-by-pixels c d ram other n same r h =
+    packed-same 8 (pixel c ram n) (pixel d other n) (8 * r) (8 * r) (λ i l. same (8 * r + i) (omega arith))
+
 module _ (c d : Chip) (ram other : List ℕ) (n : ℕ) (same : SameShown c d ram other n) where
   pixel-same : (row : ℕ) → row < 32 → pixel c ram n row ≡ pixel d other n row
   unfolding pixel
@@ -39,8 +46,7 @@ module _ (c d : Chip) (ram other : List ℕ) (n : ℕ) (same : SameShown c d ram
       ∙ ap (λ (s : ShownRegisters). pixel (showing s) other n row) (same .registers)
 
   half-depends : (r : ℕ) → r < 4 → frameByte c ram n r ≡ frameByte d other n r
-  unfolding frameByte
-  half-depends r h = packed-same 8 (pixel c ram n) (pixel d other n) (8 * r) (8 * r) (λ i l. pixel-same (8 * r + i) (omega arith))
+  half-depends = half-by-pixels c d ram other n pixel-same
 
 module _ (c : Chip) (ram : List ℕ) (n r : ℕ) (pages : TwoPages c) where
   half-lower : 2 ≤ r → frameByte c ram n r ≡ 0
@@ -65,6 +71,8 @@ half-laws =
       whole = frame-length;
       place = frame-at;
       pixels = λ c d ram other n row h same. pixel-same c d ram other n same row h;
+      by-pixels = half-by-pixels;
+      bit = byte-bit;
       depends = λ c d ram other n r h same. half-depends c d ram other n same r h;
       upper = half-upper;
       lower = half-lower;

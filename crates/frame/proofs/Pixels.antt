@@ -24,7 +24,7 @@ pixel-small c ram n row =
     Small : ℕ → Type 0
     Small k = k < 2
 
-byte-bit : (c : Chip) (ram : List ℕ) (n r b : ℕ) → b < 8 → frameByte c ram n r / 2 ^ b % 2 ≡ pixel c ram n (8 * r + b)
+pub byte-bit : (c : Chip) (ram : List ℕ) (n r b : ℕ) → b < 8 → frameByte c ram n r / 2 ^ b % 2 ≡ pixel c ram n (8 * r + b)
 unfolding frameByte
 byte-bit c ram n r b h = packed-bit (pixel c ram n) (pixel-small c ram n) 8 (8 * r) b h
 

@@ -6,7 +6,7 @@ use mathlib.Core.List.{List, _++_, append-assoc}
 use mathlib.Core.Logic.{⊎-elim}
 use lib.Dec.{eqb}
 use lib.ListN.{length, getD, take, drop, length-append, List·getD-append}
-use lib.Seq.{getD-append-add}
+use lib.Seq.{getD-append-add, ext-getD}
 use borrow.Author.Tests.{eqb-true, eqb-false}
 use Rattle.basics.specs.Halves.{startOf}
 use Rattle.basics.specs.Lists.{joined}
@@ -85,6 +85,16 @@ module _ (p : Panel) where
       let e : 0 + r ≡ r = omega arith in
       let inside = start-within segments chip (startOf segments chip) refl in
       joined-at (frameRow p) columns (row-length p) 0 4 r (startOf segments chip + n) 0 l (omega arith) ∙ rw e (row-at p r chip n h)
+
+-- two frames with the same byte at every place of either half are the same
+pub same-places : (one other : List ℕ) → length one ≡ frameBytes → length other ≡ frameBytes
+    → ((k n r : ℕ) → k < 2 → n < segments → r < 4 → getD one (framePlace k n r) 0 ≡ getD other (framePlace k n r) 0) → one ≡ other
+same-places one other h l at = ext-getD 0 one other (h ∙ sym l) (λ i below. at-place i (omega arith))
+  where
+    at-place : (i : ℕ) → i < frameBytes → getD one i 0 ≡ getD other i 0
+    at-place i below =
+        let place = place-laws .every i 4 below in
+        rw (place .here) (at (place .chip) (place .segment) (place .row) (place .either) (place .driven) (place .within))
 
 -- a row more in a buffer: its left half filled, then its right one
 pub row-begun : (p : Panel) (r : ℕ) {old now one two : List ℕ} → Begun old (joined (frameRow p) 0 r) (columns * r) now

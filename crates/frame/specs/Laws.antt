@@ -45,14 +45,17 @@ pub record TwoPages (c : Chip) : Type 0 where
   pub duty : c .«duty_32» ≡ false
   pub line : (c .«start_line» ≡ 0) ⊎ (c .«start_line» ≡ 16)
 
--- the RAM column of a segment exists; the frame's length and where a half stands in it; what alone a half depends on; and the two whole pages,
--- dark below
+-- the RAM column of a segment exists; the frame's length and where a half stands in it; its pixels and bytes out of each other; what alone a half
+-- depends on; and the two whole pages, dark below
 pub record HalfLaws : Type 0 where
   pub column : (c : Chip) (n : ℕ) → n < segments → columnOf c n < 80
   pub whole : (p : Panel) → length (frameOf p) ≡ frameBytes
   pub place : (p : Panel) (chip n r : ℕ) → n < segments → r < 4
       → getD (frameOf p) (framePlace chip n r) 0 ≡ frameByte (chipAt p chip) (ramAt p chip) n r
   pub pixels : (c d : Chip) (ram other : List ℕ) (n row : ℕ) → row < 32 → SameShown c d ram other n → pixel c ram n row ≡ pixel d other n row
+  pub by-pixels : (c d : Chip) (ram other : List ℕ) (n : ℕ) → ((row : ℕ) → row < 32 → pixel c ram n row ≡ pixel d other n row)
+      → (r : ℕ) → r < 4 → frameByte c ram n r ≡ frameByte d other n r
+  pub bit : (c : Chip) (ram : List ℕ) (n r b : ℕ) → b < 8 → frameByte c ram n r / 2 ^ b % 2 ≡ pixel c ram n (8 * r + b)
   pub depends : (c d : Chip) (ram other : List ℕ) (n r : ℕ) → r < 4 → SameShown c d ram other n → frameByte c ram n r ≡ frameByte d other n r
   pub upper : (c : Chip) (ram : List ℕ) (n r : ℕ) → TwoPages c → r < 2
       → frameByte c ram n r ≡ byteAt ram (c .«start_line» / 8 + r) (columnOf c n) % 256

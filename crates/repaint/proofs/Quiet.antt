@@ -19,7 +19,7 @@ use Rattle.sed1520.proofs.WholePanel.{whole-fit}
 use Rattle.frame.specs.Frame.{segments, frameBytes, columnOf, frameByte, frameOf, framePlace}
 use Rattle.frame.specs.Laws.{TwoPages}
 use Rattle.frame.proofs.HalfLaws.{half-laws}
-use Rattle.frame.proofs.Places.{place-laws}
+use Rattle.frame.proofs.Places.{same-places}
 use Rattle.repaint.specs.TearFree.{Ready, BothReady, SameHalf}
 use Rattle.repaint.proofs.Sides.{same-side, Moved}
 
@@ -114,19 +114,12 @@ half-same p q k ready after still =
 -- every place of a frame lies in a half
 pub halves-same : (one other : List ℕ) → SameHalf 0 one other → SameHalf 1 one other → length one ≡ frameBytes → length other ≡ frameBytes
     → one ≡ other
-halves-same one other left right h l = ext-getD 0 one other (h ∙ sym l) (λ i below. at-place i (omega arith))
-  where
-    at-side : (k n r : ℕ) → k < 2 → n < segments → r < 4 → getD one (framePlace k n r) 0 ≡ getD other (framePlace k n r) 0
-    at-side k n r side segment row =
-        ⊎-elim
-        (λ t. let e : k ≡ 0 = omega (arith, ltb-true k 1 t) in rw e (left .at n r segment row))
-        (λ t. let e : k ≡ 1 = omega (arith, ltb-false k 1 t) in rw e (right .at n r segment row))
-        (tested (ltb k 1))
-
-    at-place : (i : ℕ) → i < frameBytes → getD one i 0 ≡ getD other i 0
-    at-place i below =
-        let place = place-laws .every i 4 below in
-        rw (place .here) (at-side (place .chip) (place .segment) (place .row) (place .either) (place .driven) (place .within))
+halves-same one other left right h l =
+    same-places one other h l (λ k n r side segment row.
+    ⊎-elim
+    (λ t. let e : k ≡ 0 = omega (arith, ltb-true k 1 t) in rw e (left .at n r segment row))
+    (λ t. let e : k ≡ 1 = omega (arith, ltb-false k 1 t) in rw e (right .at n r segment row))
+    (tested (ltb k 1)))
 
 pub quiet-frame : (p q : Panel) → BothReady p → Quiet p q → frameOf q ≡ frameOf p
 quiet-frame p q ready quiet =

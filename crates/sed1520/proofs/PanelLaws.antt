@@ -28,6 +28,7 @@ every-record-apart p whole r =
     let half = cycle-keeps (chipAt p k) (ramAt p k) r .same-size ∙ every-half-whole p whole k in
     record {
       own-cycle = refl;
+      panel = refl;
       own-chip = own-choice (eqb k 0) _ _ _;
       own-ram = put-own 320 k (p .ram) whole bytes half;
       other-chip = λ j h. other-choice (eqb j 0) (eqb k 0) _ _ _ h;

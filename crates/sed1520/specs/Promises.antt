@@ -11,7 +11,7 @@ use Rattle.sed1520.specs.ChipRecord.{chipBytes, chipsBytes, flagsRight, 
 use Rattle.sed1520.specs.Command.{first, count, told, notTold, decodeOf, encodeOf}
 use Rattle.sed1520.specs.Cycle.{Outcome, outcome, refusal, stepOf, cycleOf}
 use Rattle.sed1520.specs.Laws.{Whole}
-use Rattle.sed1520.specs.Panel.{Panel, chipAt, ramAt, outcomeOf, stepped}
+use Rattle.sed1520.specs.Panel.{Panel, chipAt, ramAt, put, outcomeOf, stepped}
 use Rattle.sed1520.specs.RecordStep.{Acted, stepRecords}
 use Rattle.sed1520.specs.declared.registers.Chip.{Chip}
 use Rattle.sed1520.specs.declared.commands.Command.{Command}
@@ -52,10 +52,11 @@ EveryCycleSteps = (r : Record) (c : Chip) (ram : List ℕ) → length ram ≡ 32
 abbrev pub EveryHalfWhole : Type 0
 EveryHalfWhole = (p : Panel) → length (p .ram) ≡ 640 → (k : ℕ) → length (ramAt p k) ≡ 320
 
--- two chips on one bus: the outcome is that of the cycle of the record's own chip, with its bytes; that chip and its bytes are as its
--- cycle leaves them, the other chip and its bytes as they were
+-- two chips on one bus: the outcome is that of the cycle of the record's own chip, with its bytes; the panel has that chip and its bytes as
+-- its cycle leaves them, the other chip and its bytes as they were
 pub record Apart (p : Panel) (r : Record) : Type 0 where
   pub own-cycle : outcomeOf p r ≡ cycleOf r (chipAt p (r .chip)) (ramAt p (r .chip))
+  pub panel : stepped p r ≡ put p (r .chip) (outcomeOf p r .answer .chip) (outcomeOf p r .ram)
   pub own-chip : chipAt (stepped p r) (r .chip) ≡ outcomeOf p r .answer .chip
   pub own-ram : ramAt (stepped p r) (r .chip) ≡ outcomeOf p r .ram
   pub other-chip : (k : ℕ) → (eqb k 0 ≡ eqb (r .chip) 0 → ⊥) → chipAt (stepped p r) k ≡ chipAt p k

@@ -1,0 +1,90 @@
+-- The records of a trace that a reader can see: those after which the frame differs from before them (request C-14: when the glass changed).
+use Prim.Native.Nat.{ℕ, suc, _*_, _/_, _%_}
+use mathlib.Core.Bool.{Bool, not, _||_}
+use mathlib.Core.List.{List, [], _∷_, _++_, flatMap}
+use lib.Dec.{ltb, eqb}
+use lib.ListN.{length, take, drop}
+use Rattle.basics.specs.Bytes.{pairBytes, wordBytes, sameBytes}
+use Rattle.basics.specs.Choice.{if}
+use Rattle.basics.specs.Counts.{sumBelow, countBelow}
+use Rattle.basics.specs.Lists.{joined}
+use Rattle.basics.specs.Run.{Run}
+use Rattle.sed1520.specs.Chip.{inRange}
+use Rattle.sed1520.specs.Cycle.{Reply}
+use Rattle.sed1520.specs.Panel.{Panel, chipAt, ramAt, after}
+use Rattle.sed1520.specs.Records.{wholeRecords}
+use Rattle.sed1520.specs.Verdict.{verdict, Filled, filled}
+use Rattle.sed1520.specs.declared.bus.Record.{Record}
+use Rattle.sed1520.specs.declared.registers.Chip.{Chip}
+use Rattle.sed1520.specs.declared.verdict.Verdict.{Verdict}
+use Rattle.trace.specs.Replay.{traceRun}
+use Rattle.frame.specs.Frame.{segments, pixel, frameOf}
+
+-- the panel before record k: that after the k records before it
+abbrev pub before : Panel → List Record → ℕ → Panel
+before p rs k = after p (take k rs)
+
+-- whether the 488 bytes of the frame after record k differ from those before it
+abbrev pub changedAt : Panel → List Record → ℕ → Bool
+changedAt p rs k = not (sameBytes (frameOf (before p rs k)) (frameOf (before p rs (suc k))))
+
+-- how many of the 32 pixels of segment n differ between one chip over its RAM and another over its own
+abbrev pub segmentChanged : Chip → List ℕ → Chip → List ℕ → ℕ → ℕ
+segmentChanged c ram d other n = countBelow (λ row. not (eqb (pixel c ram n row) (pixel d other n row))) 32
+
+-- how many pixels of a half do
+unfoldable pub halfChanged : Chip → List ℕ → Chip → List ℕ → ℕ
+halfChanged c ram d other = sumBelow (segmentChanged c ram d other) segments
+
+-- how many pixels differ between two panels in the half of chip k
+abbrev pub pixelsChanged : Panel → Panel → ℕ → ℕ
+pixelsChanged p q k = halfChanged (chipAt p k) (ramAt p k) (chipAt q k) (ramAt q k)
+
+-- an entry: a record, by its place in the trace, and how many pixels it changed in the left half and in the right half
+pub record Entry : Type 0 where
+  pub index : ℕ
+  pub left : ℕ
+  pub right : ℕ
+
+-- that of record k
+abbrev pub entryAt : Panel → List Record → ℕ → Entry
+entryAt p rs k =
+    let q = before p rs k in let next = before p rs (suc k) in
+    record { index = k; left = pixelsChanged q next 0; right = pixelsChanged q next 1 }
+
+-- the entries of the first n records, in the order of the trace
+abbrev pub entriesBefore : Panel → List Record → ℕ → List Entry
+entriesBefore p rs n = joined (λ k. if (changedAt p rs k) (entryAt p rs k ∷ []) []) 0 n
+
+-- those of all records
+abbrev pub entriesOf : Panel → List Record → List Entry
+entriesOf p rs = entriesBefore p rs (length rs)
+
+-- an entry as 8 bytes, lowest byte first: record (4), pixels changed left (2) and right (2)
+abbrev pub entryBytes : Entry → List ℕ
+entryBytes e = wordBytes (e .index) ++ (pairBytes (e .left) ++ pairBytes (e .right))
+
+-- entries one after the other
+abbrev pub entriesBytes : List Entry → List ℕ
+entriesBytes entries = flatMap entryBytes entries
+
+-- number 1: a trace over 65,536 bytes, an image that is not 640
+unfoldable pub changesSizesWrong : ℕ → ℕ → Bool
+changesSizesWrong trace ram = ltb 65536 trace || not (eqb ram 640)
+
+-- the records run: one that is refused, by its own number and with its place; then number 15 where the entries need more than the room, with
+-- their full number as place; then their number as place and their bytes at the front of the buffer, the rest as it was
+abbrev pub listed : Run Panel Reply → List Entry → List ℕ → Filled Verdict
+listed run entries buffer =
+    if (not (eqb (run .number) 0)) (filled (verdict (run .number) (length (run .answers))) buffer)
+    (if (ltb (length buffer) (8 * length entries)) (filled (verdict 15 (length entries)) buffer)
+    (filled (verdict 0 (length entries)) (entriesBytes entries ++ drop (8 * length entries) buffer)))
+
+-- numbers 1, 2 (left before right) and 3, then the records; a refusal leaves the buffer as it came
+unfoldable pub changesOf : Panel → List ℕ → List ℕ → Filled Verdict
+changesOf p trace buffer =
+    if (changesSizesWrong (length trace) (length (p .ram))) (filled (verdict 1 0) buffer)
+    (if (not (inRange (p .left))) (filled (verdict 2 0) buffer)
+    (if (not (inRange (p .right))) (filled (verdict 2 1) buffer)
+    (if (not (eqb (length trace % 4) 0)) (filled (verdict 3 (length trace / 4)) buffer)
+    (listed (traceRun p trace) (entriesOf p (wholeRecords trace)) buffer))))

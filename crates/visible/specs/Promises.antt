@@ -1,0 +1,71 @@
+-- What is proved of the entries beside the call's contract, and which records nobody can see.
+use Prim.Native.Nat.{ℕ, suc, _+_, _*_, _/_, _<_, _≤_}
+use mathlib.Core.Path.{_≡_}
+use mathlib.Core.List.{List, _++_}
+use mathlib.Core.Logic.{_⊎_}
+use lib.ListN.{length, getD, drop}
+use Rattle.sed1520.specs.Panel.{Panel, outcomeOf, stepped}
+use Rattle.sed1520.specs.Records.{wholeRecords}
+use Rattle.sed1520.specs.Verdict.{verdict, filled}
+use Rattle.sed1520.specs.declared.bus.Record.{Record}
+use Rattle.trace.specs.Replay.{replayOf}
+use Rattle.frame.specs.Frame.{frameOf}
+use Rattle.visible.specs.Changes.{before, Entry, entryAt, entriesOf, entriesBytes, changesOf}
+use Rattle.visible.specs.Sight.{entryOf}
+
+-- entry i of the list
+abbrev pub entryNo : Panel → List Record → ℕ → Entry
+entryNo p rs i = getD (entriesOf p rs) i (entryOf 0 0 0)
+
+-- some entry is that of record k
+abbrev pub Listed : Panel → List Record → ℕ → Type 0
+Listed p rs k = (i : ℕ) × ((i < length (entriesOf p rs)) × (entryNo p rs i .index ≡ k))
+
+-- record k leaves the frame as it was
+abbrev pub Unseen : Panel → List Record → ℕ → Type 0
+Unseen p rs k = frameOf (before p rs (suc k)) ≡ frameOf (before p rs k)
+
+-- entry i: it is of a record of the trace, after which the frame differs from before it; its two counts are those of the pixels that differ, which
+-- are not both 0; and as a record goes to one chip, one of them is
+pub record EntrySays (p : Panel) (rs : List Record) (i : ℕ) : Type 0 where
+  pub within : entryNo p rs i .index < length rs
+  pub counts : entryNo p rs i ≡ entryAt p rs (entryNo p rs i .index)
+  pub seen : Unseen p rs (entryNo p rs i .index) → ⊥
+  pub some : entryNo p rs i .left + entryNo p rs i .right ≡ 0 → ⊥
+  pub one-half : (entryNo p rs i .left ≡ 0) ⊎ (entryNo p rs i .right ≡ 0)
+
+-- a record is listed exactly when the frame after it differs from the frame before it, once and in the order of the trace; one that is not
+-- listed changed nothing that can be seen
+pub record ListSays (p : Panel) (rs : List Record) : Type 0 where
+  pub each : (i : ℕ) → i < length (entriesOf p rs) → EntrySays p rs i
+  pub every : (k : ℕ) → k < length rs → (Unseen p rs k → ⊥) → Listed p rs k
+  pub order : (i j : ℕ) → i < j → j < length (entriesOf p rs) → entryNo p rs i .index < entryNo p rs j .index
+  pub unlisted : (k : ℕ) → k < length rs → (Listed p rs k → ⊥) → Unseen p rs k
+
+-- of any records on any panel of 640 bytes
+abbrev pub EveryListSays : Type 0
+EveryListSays = (p : Panel) → length (p .ram) ≡ 640 → (rs : List Record) → ListSays p rs
+
+-- a status read, a data read and a refused record leave the frame
+pub record LeavesFrame (p : Panel) (r : Record) : Type 0 where
+  pub status-read : r .lines ≡ 4 → frameOf (stepped p r) ≡ frameOf p
+  pub data-read : r .lines ≡ 5 → frameOf (stepped p r) ≡ frameOf p
+  pub refused : (outcomeOf p r .answer .number ≡ 0 → ⊥) → frameOf (stepped p r) ≡ frameOf p
+
+-- on any panel of 640 bytes
+abbrev pub EveryReadUnseen : Type 0
+EveryReadUnseen = (p : Panel) → length (p .ram) ≡ 640 → (r : Record) → LeavesFrame p r
+
+-- the call refuses what a replay refuses that has room for its answers, with its number and place; then number 15 where the entries need more than the
+-- room, with their full number as place; else it gives them all
+pub record AsReplay (p : Panel) (trace answers buffer : List ℕ) : Type 0 where
+  pub refused : (replayOf p trace answers .number ≡ 0 → ⊥)
+      → changesOf p trace buffer ≡ filled (verdict (replayOf p trace answers .number) (replayOf p trace answers .place)) buffer
+  pub short : replayOf p trace answers .number ≡ 0 → let entries = entriesOf p (wholeRecords trace) in
+      length buffer < 8 * length entries → changesOf p trace buffer ≡ filled (verdict 15 (length entries)) buffer
+  pub done : replayOf p trace answers .number ≡ 0 → let entries = entriesOf p (wholeRecords trace) in 8 * length entries ≤ length buffer
+      → changesOf p trace buffer ≡ filled (verdict 0 (length entries)) (entriesBytes entries ++ drop (8 * length entries) buffer)
+
+-- whatever is lent
+abbrev pub EveryCallAsReplay : Type 0
+EveryCallAsReplay = (p : Panel) (trace answers buffer : List ℕ) → 2 * (length trace / 4) ≤ length answers → AsReplay p trace answers buffer

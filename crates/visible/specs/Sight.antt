@@ -1,0 +1,105 @@
+-- What one record comes to, as far as the list of changes looks at it: on the panel, and on the half of its own chip.
+use Prim.Native.Nat.{ℕ, _+_, _*_, _/_, _%_, _^_}
+use mathlib.Core.Bool.{Bool, not, _&&_, Bool·beq}
+use mathlib.Core.List.{List, _++_}
+use lib.Dec.{ltb, eqb}
+use lib.ListN.{length, take, drop}
+use Rattle.basics.specs.Choice.{if}
+use Rattle.basics.specs.Counts.{countBelow}
+use Rattle.sed1520.specs.Cycle.{cycleOf}
+use Rattle.sed1520.specs.Panel.{Panel, panelOf, outcomeOf, stepped}
+use Rattle.sed1520.specs.Records.{wholeRecords}
+use Rattle.trace.specs.Replay.{traceRun}
+use Rattle.sed1520.specs.declared.bus.Record.{Record}
+use Rattle.sed1520.specs.declared.registers.Chip.{Chip}
+use Rattle.visible.specs.Changes.{Entry, entriesBefore, entryBytes, entriesBytes, halfChanged, pixelsChanged}
+use Rattle.visible.specs.declared.half.Seen.{Seen}
+use Rattle.visible.specs.declared.panel.Watched.{Watched}
+use Rattle.visible.specs.declared.walk.Walked.{Walked}
+
+-- how many of the 32 lowest bits of two numbers differ
+abbrev pub bitsDiffering : ℕ → ℕ → ℕ
+bitsDiffering one other = countBelow (λ b. not (eqb (one / 2 ^ b % 2) (other / 2 ^ b % 2))) 32
+
+-- what a record gives back on one chip, and the RAM afterwards
+pub record HalfSight : Type 0 where
+  pub seen : Seen
+  pub ram : List ℕ
+
+-- both together
+abbrev pub halfSight : Seen → List ℕ → HalfSight
+halfSight s ram = record { seen = s; ram = ram }
+
+-- number, chip and RAM as the cycle leaves them, and how many pixels of the half differ from before it
+abbrev pub halfSightOf : Record → Chip → List ℕ → HalfSight
+halfSightOf r c ram =
+    let o = cycleOf r c ram in let d = o .answer .chip in
+    halfSight (record { number = o .answer .number; chip = d; pixels = halfChanged c ram d (o .ram) }) (o .ram)
+
+-- a record's number, the panel after it, and how many pixels of each half differ from before it
+pub record Sight : Type 0 where
+  pub number : ℕ
+  pub panel : Panel
+  pub left : ℕ
+  pub right : ℕ
+
+-- all of it as one value
+abbrev pub sight : ℕ → Panel → ℕ → ℕ → Sight
+sight n p left right = record { number = n; panel = p; left = left; right = right }
+
+-- that of a record on a panel
+abbrev pub sightOf : Panel → Record → Sight
+sightOf p r = let next = stepped p r in sight (outcomeOf p r .answer .number) next (pixelsChanged p next 0) (pixelsChanged p next 1)
+
+-- what the code gives back and leaves, as such a value
+abbrev pub watched : Watched → List ℕ → Sight
+watched w ram = sight (w .number) (panelOf (w .left) (w .right) ram) (w .«left_pixels») (w .«right_pixels»)
+
+-- whether two chips are alike in the registers that a frame looks at
+unfoldable pub sameShown : Chip → Chip → Bool
+sameShown c d =
+    Bool·beq (c .«display_on») (d .«display_on») && (Bool·beq (c .«static_on») (d .«static_on») && (Bool·beq (c .«duty_32») (d .«duty_32»)
+    && (Bool·beq (c .reverse) (d .reverse) && eqb (c .«start_line») (d .«start_line»))))
+
+-- an entry of three numbers
+abbrev pub entryOf : ℕ → ℕ → ℕ → Entry
+entryOf index left right = record { index = index; left = left; right = right }
+
+-- how many entries there are, and the buffer with those that it has room for
+pub record Listing : Type 0 where
+  pub count : ℕ
+  pub buffer : List ℕ
+
+-- both as one value
+abbrev pub listing : ℕ → List ℕ → Listing
+listing count buffer = record { count = count; buffer = buffer }
+
+-- an entry written behind n others where there is room for it
+abbrev pub putEntry : Entry → ℕ → List ℕ → List ℕ
+putEntry e n buffer = if (ltb n (length buffer / 8)) (take (8 * n) buffer ++ (entryBytes e ++ drop (8 * n + 8) buffer)) buffer
+
+-- one entry more, unless it has no pixels
+unfoldable pub oneMore : Entry → Listing → Listing
+oneMore e l = if (eqb (e .left + e .right) 0) l (listing (l .count + 1) (putEntry e (l .count) (l .buffer)))
+
+-- a buffer after as many entries as it has room for were put to its front
+abbrev pub putEntries : List Entry → List ℕ → List ℕ
+putEntries entries buffer =
+    let fit = take (length buffer / 8) entries in entriesBytes fit ++ drop (8 * length fit) buffer
+
+-- what a walk over the records gives back, and the image and the entries' buffer afterwards
+pub record Walk : Type 0 where
+  pub walked : Walked
+  pub ram : List ℕ
+  pub buffer : List ℕ
+
+-- all of it as one value
+abbrev pub walkLeft : Walked → List ℕ → List ℕ → Walk
+walkLeft w ram buffer = record { walked = w; ram = ram; buffer = buffer }
+
+-- how the run of the records ends, where it leaves the image, and the entries of those that ran: counted, and put as far as there is room
+abbrev pub walkOf : Panel → List ℕ → List ℕ → Walk
+walkOf p trace buffer =
+    let run = traceRun p trace in
+    let entries = entriesBefore p (wholeRecords trace) (length (run .answers)) in
+    walkLeft (record { number = run .number; place = length (run .answers); entries = length entries }) (run .state .ram) (putEntries entries buffer)

@@ -1,0 +1,101 @@
+// The records of a trace one after the other, and an entry for each that changed what the panel shows.
+ghost use Prim.Native.Nat.{_/_, _<_, _≤_};
+ghost use mathlib.Core.Path.{_≡_};
+ghost use lib.ListN.{length};
+ghost use Rattle.sed1520.specs.Laws.{Whole};
+ghost use Rattle.sed1520.specs.Panel.{panelOf};
+ghost use Rattle.visible.specs.Changes.{entryBytes};
+ghost use Rattle.visible.specs.Sight.{entryOf, listing, oneMore, walkLeft, walkOf};
+use crate::panel::watch;
+use sed1520::bus::Record;
+use sed1520::registers::Chip;
+use trace::RECORD_BYTES;
+
+// The bytes of an entry.
+pub const ENTRY_BYTES: usize = 8;
+
+// 0 or the number by which a record was refused, how many records ran before it, and how many of these have an entry.
+pub(crate) struct Walked {
+    pub number: u8,
+    pub place: u64,
+    pub entries: usize,
+}
+
+// An entry as bytes.
+fn put_entry(bytes: &mut [u8], index: usize, left: u32, right: u32)
+    requires { ⌜ length (now bytes) ≡ 8 ⌝ }
+    requires { ⌜ index < 65536 ⌝ }
+    requires { ⌜ left < 65536 ⌝ }
+    requires { ⌜ right < 65536 ⌝ }
+    ensures { λ _. ⌜ now (bytes .exit) ≡ entryBytes (entryOf index left right) ⌝ }
+{
+    bytes[0] = (index % 0x100) as u8;
+    bytes[1] = (index / 0x100 % 0x100) as u8;
+    bytes[2] = (index / 0x1_0000 % 0x100) as u8;
+    bytes[3] = (index / 0x100_0000) as u8;
+    bytes[4] = (left % 0x100) as u8;
+    bytes[5] = (left / 0x100) as u8;
+    bytes[6] = (right % 0x100) as u8;
+    bytes[7] = (right / 0x100) as u8;
+}
+
+// An entry more for a record that changed pixels, and none for one that did not: written where there is room for it behind
+// those before it, and counted.
+fn list_entry(entries: &mut [u8], listed: usize, index: usize, left: u32, right: u32) -> usize
+    requires { ⌜ listed < 65536 ⌝ }
+    requires { ⌜ index < 65536 ⌝ }
+    requires { ⌜ left < 65536 ⌝ }
+    requires { ⌜ right < 65536 ⌝ }
+    ensures { λ r. ⌜ listing r (now (entries .exit)) ≡ oneMore (entryOf index left right) (listing listed (now (entries .entry))) ⌝ }
+{
+    if left + right == 0 {
+        return listed;
+    }
+    if entries.len() / ENTRY_BYTES <= listed {
+        return listed + 1;
+    }
+    let to = ENTRY_BYTES * listed;
+    put_entry(&mut entries[to..to + ENTRY_BYTES], index, left, right);
+    listed + 1
+}
+
+// The records on two chips in range over an image that may change, up to the first that is refused. The entries that
+// there is room for are written, the others counted.
+pub(crate) fn walk(left: Chip, right: Chip, ram: &mut [u8], trace: &[u8], entries: &mut [u8]) -> Walked
+    requires { ⌜ Whole (panelOf left right (now ram)) ⌝ }
+    requires { ⌜ length (now trace) ≤ 65536 ⌝ }
+    ensures { λ r. ⌜ walkLeft r (now (ram .exit)) (now (entries .exit))
+        ≡ walkOf (panelOf left right (now (ram .entry))) (now (trace .entry)) (now (entries .entry)) ⌝ }
+{
+    let count = trace.len() / RECORD_BYTES;
+    let mut now_left = left;
+    let mut now_right = right;
+    let mut listed = 0;
+    let mut at = 0;
+    while at < count {
+        let from = RECORD_BYTES * at;
+        let bus = Record {
+            lines: trace[from],
+            chip: trace[from + 1],
+            byte: trace[from + 2],
+            spare: trace[from + 3],
+        };
+        let seen = watch(bus, now_left, now_right, ram);
+        if seen.number != 0 {
+            return Walked {
+                number: seen.number,
+                place: at as u64,
+                entries: listed,
+            };
+        }
+        listed = list_entry(entries, listed, at, seen.left_pixels, seen.right_pixels);
+        now_left = seen.left;
+        now_right = seen.right;
+        at = at + 1;
+    }
+    Walked {
+        number: 0,
+        place: at as u64,
+        entries: listed,
+    }
+}
