@@ -2,6 +2,7 @@ pub mod Tests
 pub mod Parts
 pub mod Halves
 pub mod Lists
+pub mod Chosen
 pub mod Pieces
 pub mod Filling
 pub mod Run

@@ -9,7 +9,7 @@ use mathlib.Core.Logic.{⊎-elim}
 use lib.Dec.{eqb, leb}
 use lib.ListN.{length, getD, take, length-append}
 use lib.Seq.{take-nil, take-append-le, take-append-add}
-use borrow.Author.Tests.{eq-eqb, ne-eqb, eqb-true, leb-true, leb-false}
+use borrow.Author.Tests.{eq-eqb, ne-eqb, eqb-true, eqb-false, leb-true, leb-false}
 use Rattle.basics.specs.Run.{Turn, Run, ranTo, answeredFirst, runOf}
 use Rattle.basics.proofs.Tests.{tested}
 
@@ -72,6 +72,16 @@ module _ {S R A : Type 0} (step : S → R → Turn S A) where
       rw (e, run-accepted s r (rs ++ qs) t, run-cut (step s r .next) rs qs (λ z. h (rw e z))))
       (λ t. rw (run-refused s r rs t, run-refused s r (rs ++ qs) t))
       (tested (eqb (step s r .number) 0))
+
+  -- one record more leads on from where the others led, or leaves the state there
+  pub leads-or-stays : (P : S → Type 0) (s : S) (rs : List R) (r : R) → let t = runOf step s rs .state in
+      P (step t r .next) → P t → P (runOf step s (rs ++ (r ∷ [])) .state)
+  leads-or-stays P s rs r next same =
+      ⊎-elim
+      (λ t. rw (state-join s rs (r ∷ []) (eqb-true (runOf step s rs .number) 0 t))
+      (by-first (λ (run : Run S A). P (run .state)) _ r [] (λ _. rw run-none next) (λ _. same)))
+      (λ t. rw (run-cut s rs (r ∷ []) (eqb-false (runOf step s rs .number) 0 t)) same)
+      (tested (eqb (runOf step s rs .number) 0))
 
   -- one record more, after a run that was done: accepted, or refused with any others behind it
   module _ (s : S) (rs : List R) {answers : List A} {t : S} (so-far : runOf step s rs ≡ ranTo 0 answers t) (r : R) where

@@ -8,6 +8,7 @@ use Rattle.trace.proofs.Bounds.{Few, replay-bounded, in-place-bounded}
 use Rattle.trace.specs.declared.Ran.{Ran}
 use Rattle.frame.proofs.FrameCases.{places-small}
 use Rattle.repaint.proofs.RepaintCases as repaint
+use Rattle.visible.proofs.ChangesCases as changes
 use Rattle.pedralume.specs.Promises.{Unpacks, Small, AnswersUnpack}
 
 unpacks : (n at compared differing : ℕ) → n < 256 → at < 65536 → compared < 65536 → Unpacks n at compared differing
@@ -35,5 +36,6 @@ answers-unpack =
       replay = λ chips ram trace answers. small (in-place-bounded chips ram trace answers);
       replay-by-value = λ p trace answers. small (replay-bounded p trace answers);
       frame-place = places-small;
+      changes-place = changes.places-small;
       repaint-place = repaint.places-small;
     }

@@ -1,13 +1,13 @@
--- Bytes put into a buffer: four of a number, from a place on; and those of another buffer, one after the other.
-use Prim.Native.Nat.{ℕ, suc, _+_, _<_, _≤_}
+-- Bytes put into a buffer: four of a number, from a place on; and several, one after the other.
+use Prim.Native.Nat.{ℕ, suc, _+_, _≤_}
 use native.Mathlib.Omega.{arith}
-use native.Mathlib.Numerals.{add-one}
 use mathlib.Core.Path.{_≡_, _∙_}
 use mathlib.Core.List.{List, [], _∷_, _++_, append-assoc}
-use lib.ListN.{length, getD, take, drop, set, length-append}
-use lib.Seq.{take-suc, take-at, sets, sets-eq, drop-drop}
-use Rattle.basics.proofs.Filling.{Begun, begun-first, begun-byte, still}
-use Rattle.pedralume.specs.FeedRecord.{wordBytes, putWord}
+use lib.ListN.{length, take, drop, set, length-append}
+use lib.Seq.{take-at, sets, sets-eq, drop-drop}
+use Rattle.basics.specs.Bytes.{wordBytes}
+use Rattle.basics.proofs.Filling.{Begun, begun-first, still}
+use Rattle.pedralume.specs.FeedRecord.{putWord}
 
 pub four-put : (l : List ℕ) (at a b c d : ℕ) → at + 4 ≤ length l
     → set (set (set (set l at a) (at + 1) b) (at + 2) c) (at + 3) d ≡ take at l ++ ((a ∷ b ∷ c ∷ d ∷ []) ++ drop (at + 4) l)
@@ -33,10 +33,3 @@ begun-number {old} {front} {at} {now} begun n put =
       size = length-append front (wordBytes n) ∙ omega (arith, begun .size);
       bytes = put ∙ rw (before, behind) (simp append-assoc);
     }
-
--- one byte more of those copied
-pub copied-more : (from : List ℕ) {old now : List ℕ} {at : ℕ} → Begun old (take at from) at now → at < length from → length from ≡ length old
-    → Begun old (take (at + 1) from) (at + 1) (set now at (getD from at 0))
-copied-more from {at = at} begun h same =
-    let next : take (at + 1) from ≡ take at from ++ (getD from at 0 ∷ []) = rw (add-one at) (take-suc from at 0 h) in
-    rw next (begun-byte begun _ (omega arith))

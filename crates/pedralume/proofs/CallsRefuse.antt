@@ -15,6 +15,7 @@ use Rattle.sed1520.specs.Panel.{panelOf}
 use Rattle.sed1520.specs.Verdict.{Filled}
 use Rattle.frame.specs.Frame.{framed}
 use Rattle.repaint.specs.Repaint.{chipsVerdict, repaintOf}
+use Rattle.visible.specs.Changes.{changesOf}
 use Rattle.pedralume.specs.Call.{packedWith, onChips, packedFilled}
 use Rattle.pedralume.specs.Refusals.{BufferRefused, CallsRefuse}
 use Rattle.pedralume.proofs.OnChips.{wrong-length, on-chips}
@@ -38,7 +39,7 @@ module _ (wrong : Bool) (chips buffer : List ℕ) (call : Chip → Chip → Fill
       }
 
 pub calls-refuse : CallsRefuse
-unfolding framed repaintOf chipsVerdict
+unfolding framed repaintOf chipsVerdict changesOf
 calls-refuse =
     record {
       frame =
@@ -46,5 +47,8 @@ calls-refuse =
           (λ l r e. rw e) (λ l r s out. rw (s, out)) (λ l r s within out. rw (s, within, out));
       repaint =
           λ chips picture buffer. refuses _ chips buffer (λ l r. packedFilled (repaintOf l r picture buffer))
+          (λ l r e. rw e) (λ l r s out. rw (s, out)) (λ l r s within out. rw (s, within, out));
+      changes =
+          λ chips ram trace buffer. refuses _ chips buffer (λ l r. packedFilled (changesOf (panelOf l r ram) trace buffer))
           (λ l r e. rw e) (λ l r s out. rw (s, out)) (λ l r s within out. rw (s, within, out));
     }

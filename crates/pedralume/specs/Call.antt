@@ -14,8 +14,9 @@ use Rattle.trace.specs.Replay.{InPlace, inPlace, replayInPlace}
 use Rattle.trace.specs.declared.Ran.{Ran}
 use Rattle.frame.specs.Frame.{framed}
 use Rattle.repaint.specs.Repaint.{repaintOf}
+use Rattle.visible.specs.Changes.{changesOf}
 
--- the 64-bit number that replay, frame and repaint give back: number, place, compared and differing, each in bits of its own
+-- the 64-bit number that replay, frame, repaint and the list of changes give back: number, place, compared and differing, each in bits of its own
 abbrev pub packed : ℕ → ℕ → ℕ → ℕ → ℕ
 packed number place compared differing = number + 256 * place + 2 ^ 24 * compared + 2 ^ 40 * differing
 
@@ -47,3 +48,7 @@ frameCall chips ram buffer = onChips chips buffer (λ left right. packedFilled (
 -- the repaint of the chips
 abbrev pub repaintCall : List ℕ → List ℕ → List ℕ → Filled ℕ
 repaintCall chips picture buffer = onChips chips buffer (λ left right. packedFilled (repaintOf left right picture buffer))
+
+-- the entries of the records that changed what the panel of the chips shows
+abbrev pub changesCall : List ℕ → List ℕ → List ℕ → List ℕ → Filled ℕ
+changesCall chips ram trace buffer = onChips chips buffer (λ left right. packedFilled (changesOf (panelOf left right ram) trace buffer))

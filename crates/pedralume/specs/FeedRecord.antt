@@ -5,6 +5,7 @@ use mathlib.Core.Bool.{Bool, _&&_, _||_}
 use mathlib.Core.List.{List, [], _∷_, _++_}
 use lib.Dec.{eqb}
 use lib.ListN.{getD, take, drop}
+use Rattle.basics.specs.Bytes.{wordBytes}
 use Rattle.basics.specs.Choice.{if}
 use Rattle.sed1520.specs.ChipRecord.{chipsBytes}
 use Rattle.trace.specs.declared.progress.Ending.{Ending}
@@ -19,10 +20,6 @@ wordOf a b c d = a + 256 * b + 65536 * c + 16777216 * d
 -- four bytes from a place on as a number
 abbrev pub wordAt : List ℕ → ℕ → ℕ
 wordAt b at = wordOf (getD b at 0) (getD b (at + 1) 0) (getD b (at + 2) 0) (getD b (at + 3) 0)
-
--- a number below 2^32 as four bytes, lowest first
-abbrev pub wordBytes : ℕ → List ℕ
-wordBytes n = n % 256 ∷ n / 256 % 256 ∷ n / 65536 % 256 ∷ n / 16777216 ∷ []
 
 -- four bytes from a place on replaced by those of a number
 abbrev pub putWord : List ℕ → ℕ → ℕ → List ℕ

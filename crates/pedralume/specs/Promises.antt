@@ -7,6 +7,7 @@ use Rattle.sed1520.specs.declared.registers.Chip.{Chip}
 use Rattle.trace.specs.Replay.{replayOf, replayInPlace}
 use Rattle.frame.specs.Frame.{framed}
 use Rattle.repaint.specs.Repaint.{repaintOf}
+use Rattle.visible.specs.Changes.{changesOf}
 use Rattle.pedralume.specs.Call.{packed}
 
 -- the parts of the 64-bit number, each read from bits of its own
@@ -30,4 +31,5 @@ pub record AnswersUnpack : Type 0 where
       Small (a .place) (a .compared) (a .differing)
   pub replay-by-value : (p : Panel) (trace answers : List ℕ) → let o = replayOf p trace answers in Small (o .place) (o .compared) (o .differing)
   pub frame-place : (p : Panel) (buffer : List ℕ) → framed p buffer .verdict .place < 65536
+  pub changes-place : (p : Panel) (trace buffer : List ℕ) → changesOf p trace buffer .verdict .place < 65536
   pub repaint-place : (left right : Chip) (picture buffer : List ℕ) → repaintOf left right picture buffer .verdict .place < 65536

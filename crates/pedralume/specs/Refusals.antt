@@ -5,10 +5,11 @@ use mathlib.Core.Bool.{Bool, true, false}
 use mathlib.Core.List.{List}
 use lib.ListN.{length, take, drop}
 use Rattle.sed1520.specs.ChipRecord.{recordRight}
-use Rattle.pedralume.specs.Call.{packedWith, frameCall, repaintCall}
+use Rattle.pedralume.specs.Call.{packedWith, frameCall, repaintCall, changesCall}
 use Rattle.sed1520.specs.Verdict.{Filled}
 use Rattle.frame.specs.Frame.{frameSizesWrong}
 use Rattle.repaint.specs.Repaint.{repaintSizesWrong}
+use Rattle.visible.specs.Changes.{changesSizesWrong}
 
 -- each number where those before it have no cause, left chip before right; a wrong size is number 1 whatever the chip records hold
 pub record BufferRefused (wrong : Bool) (chips buffer : List ℕ) (call : Filled ℕ) : Type 0 where
@@ -18,8 +19,10 @@ pub record BufferRefused (wrong : Bool) (chips buffer : List ℕ) (call : Filled
   pub right-wrong : length chips ≡ 24 → wrong ≡ false → recordRight (take 12 chips) ≡ true → recordRight (drop 12 chips) ≡ false
       → call ≡ packedWith buffer 2 1
 
--- of the frame and of the repaint
+-- of the frame, of the repaint and of the list of changes
 pub record CallsRefuse : Type 0 where
   pub frame : (chips ram buffer : List ℕ) → BufferRefused (frameSizesWrong (length ram) (length buffer)) chips buffer (frameCall chips ram buffer)
   pub repaint : (chips picture buffer : List ℕ)
       → BufferRefused (repaintSizesWrong (length picture) (length buffer)) chips buffer (repaintCall chips picture buffer)
+  pub changes : (chips ram trace buffer : List ℕ)
+      → BufferRefused (changesSizesWrong (length trace) (length ram)) chips buffer (changesCall chips ram trace buffer)

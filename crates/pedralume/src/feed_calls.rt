@@ -66,7 +66,7 @@ pub extern "C" fn pedralume_feed_open(feed: &mut [u8], chips: &[u8]) -> u64
     let next = opened.feed;
     let progress = next.progress;
     let ran = opened.ran;
-    copy(chips, &mut feed[..CHIPS_BYTES]);
+    basics::copy(chips, &mut feed[..CHIPS_BYTES]);
     progress_out(progress, &mut feed[CHIPS_BYTES..]);
     pack_feed(ran.number, ran.place)
 }
@@ -118,16 +118,4 @@ pub extern "C" fn pedralume_feed_close(feed: &mut [u8]) -> u64
     let stopped = after.progress;
     write_back(ending, ran.number, stopped, &mut feed[CHIPS_BYTES..]);
     pack_feed(ran.number, ran.place)
-}
-
-// Bytes copied to a buffer of the same length.
-fn copy(from: &[u8], to: &mut [u8])
-    requires { ⌜ length (now from) ≡ length (now to) ⌝ }
-    ensures { λ _. ⌜ now (to .exit) ≡ now (from .entry) ⌝ }
-{
-    let mut at = 0;
-    while at < from.len() {
-        to[at] = from[at];
-        at = at + 1;
-    }
 }

@@ -5,7 +5,7 @@ mod feed_record;
 mod packing;
 
 ghost use mathlib.Core.Path.{_≡_};
-ghost use Rattle.pedralume.specs.Call.{replayCall, frameCall, repaintCall};
+ghost use Rattle.pedralume.specs.Call.{replayCall, frameCall, repaintCall, changesCall};
 ghost use Rattle.sed1520.specs.Verdict.{filled};
 ghost use Rattle.trace.specs.Replay.{inPlace};
 use crate::packing::pack;
@@ -55,4 +55,25 @@ pub extern "C" fn pedralume_repaint(chips: &[u8], picture: &[u8], output: &mut [
     let right = both.right;
     let painted = repaint::repaint(left, right, picture, output);
     pack(painted.number, painted.place, 0, 0)
+}
+
+// The records of a trace that changed what the panel shows, on two chip records and the image, into a buffer of entries.
+#[no_mangle]
+pub extern "C" fn pedralume_changes(
+    chips: &[u8],
+    ram: &[u8],
+    trace: &[u8],
+    entries: &mut [u8],
+) -> u64
+    ensures { λ r. ⌜ filled r (now (entries .exit))
+        ≡ changesCall (now (chips .entry)) (now (ram .entry)) (now (trace .entry)) (now (entries .entry)) ⌝ }
+{
+    if chips.len() != CHIPS_BYTES {
+        return pack(1, 0, 0, 0);
+    }
+    let both = chips_in(chips);
+    let left = both.left;
+    let right = both.right;
+    let listed = visible::changes(left, right, ram, trace, entries);
+    pack(listed.number, listed.place, 0, 0)
 }

@@ -1,4 +1,4 @@
-// The 64-bit number that the calls of the replay, the frame and the repaint give back.
+// The 64-bit number that the calls but the feed's give back.
 ghost use Prim.Native.Nat.{_<_};
 ghost use mathlib.Core.Path.{_≡_};
 ghost use Rattle.pedralume.specs.Call.{packed};

@@ -5,3 +5,7 @@ pub mod PanelSights
 pub mod FramesSame
 pub mod Listings
 pub mod Walking
+pub mod ChangesCases
+pub mod Unseen
+pub mod AsReplay
+pub mod Listed

@@ -60,13 +60,13 @@ module _ (p : Panel) (image : length (p .ram) ≡ 640) (r : Record) where
       let apart = every-record-apart p image r in
       ap₂ (halfChanged (chipAt p k) (ramAt p k)) (apart .own-chip) (apart .own-ram)
 
-  other-pixels : (j : ℕ) → (eqb j 0 ≡ eqb k 0 → ⊥) → pixelsChanged p next j ≡ 0
+  pub other-pixels : (j : ℕ) → (eqb j 0 ≡ eqb k 0 → ⊥) → pixelsChanged p next j ≡ 0
   other-pixels j other =
       let apart = every-record-apart p image r in
       ap₂ (halfChanged (chipAt p j) (ramAt p j)) (apart .other-chip j other) (apart .other-ram j other)
       ∙ same-registers (chipAt p j) (chipAt p j) (ramAt p j) refl
 
-  half-pixels : (j : ℕ) → pixelsChanged p next j ≡ if (Bool·beq (eqb j 0) (eqb k 0)) own 0
+  pub half-pixels : (j : ℕ) → pixelsChanged p next j ≡ if (Bool·beq (eqb j 0) (eqb k 0)) own 0
   half-pixels j =
       ⊎-elim
       (λ t. let same = alike (eqb j 0) (eqb k 0) t in rw t (rw same own-pixels))

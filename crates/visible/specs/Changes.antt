@@ -8,9 +8,7 @@ use Rattle.basics.specs.Bytes.{pairBytes, wordBytes, sameBytes}
 use Rattle.basics.specs.Choice.{if}
 use Rattle.basics.specs.Counts.{sumBelow, countBelow}
 use Rattle.basics.specs.Lists.{joined}
-use Rattle.basics.specs.Run.{Run}
 use Rattle.sed1520.specs.Chip.{inRange}
-use Rattle.sed1520.specs.Cycle.{Reply}
 use Rattle.sed1520.specs.Panel.{Panel, chipAt, ramAt, after}
 use Rattle.sed1520.specs.Records.{wholeRecords}
 use Rattle.sed1520.specs.Verdict.{verdict, Filled, filled}
@@ -72,11 +70,11 @@ entriesBytes entries = flatMap entryBytes entries
 unfoldable pub changesSizesWrong : ℕ → ℕ → Bool
 changesSizesWrong trace ram = ltb 65536 trace || not (eqb ram 640)
 
--- the records run: one that is refused, by its own number and with its place; then number 15 where the entries need more than the room, with
--- their full number as place; then their number as place and their bytes at the front of the buffer, the rest as it was
-abbrev pub listed : Run Panel Reply → List Entry → List ℕ → Filled Verdict
-listed run entries buffer =
-    if (not (eqb (run .number) 0)) (filled (verdict (run .number) (length (run .answers))) buffer)
+-- how the records ended: a number other than 0 with its place; then number 15 where the entries need more than the room, with their full number
+-- as place; then their number as place and their bytes at the front of the buffer, the rest as it was
+abbrev pub listed : ℕ → ℕ → List Entry → List ℕ → Filled Verdict
+listed number place entries buffer =
+    if (not (eqb number 0)) (filled (verdict number place) buffer)
     (if (ltb (length buffer) (8 * length entries)) (filled (verdict 15 (length entries)) buffer)
     (filled (verdict 0 (length entries)) (entriesBytes entries ++ drop (8 * length entries) buffer)))
 
@@ -87,4 +85,4 @@ changesOf p trace buffer =
     (if (not (inRange (p .left))) (filled (verdict 2 0) buffer)
     (if (not (inRange (p .right))) (filled (verdict 2 1) buffer)
     (if (not (eqb (length trace % 4) 0)) (filled (verdict 3 (length trace / 4)) buffer)
-    (listed (traceRun p trace) (entriesOf p (wholeRecords trace)) buffer))))
+    (let run = traceRun p trace in listed (run .number) (length (run .answers)) (entriesOf p (wholeRecords trace)) buffer))))

@@ -9,6 +9,7 @@ use Rattle.basics.specs.Counts.{countBelow}
 use Rattle.sed1520.specs.Cycle.{cycleOf}
 use Rattle.sed1520.specs.Panel.{Panel, panelOf, outcomeOf, stepped}
 use Rattle.sed1520.specs.Records.{wholeRecords}
+use Rattle.sed1520.specs.Verdict.{Filled, filled}
 use Rattle.trace.specs.Replay.{traceRun}
 use Rattle.sed1520.specs.declared.bus.Record.{Record}
 use Rattle.sed1520.specs.declared.registers.Chip.{Chip}
@@ -97,9 +98,20 @@ pub record Walk : Type 0 where
 abbrev pub walkLeft : Walked → List ℕ → List ℕ → Walk
 walkLeft w ram buffer = record { walked = w; ram = ram; buffer = buffer }
 
--- how the run of the records ends, where it leaves the image, and the entries of those that ran: counted, and put as far as there is room
-abbrev pub walkOf : Panel → List ℕ → List ℕ → Walk
-walkOf p trace buffer =
+-- the entries of the records that ran: all, or those before the one that was refused
+abbrev pub entriesRan : Panel → List ℕ → List Entry
+entriesRan p trace = entriesBefore p (wholeRecords trace) (length (traceRun p trace .answers))
+
+-- how the run of the records ends, and how many entries they have
+abbrev pub walkedOf : Panel → List ℕ → Walked
+walkedOf p trace =
     let run = traceRun p trace in
-    let entries = entriesBefore p (wholeRecords trace) (length (run .answers)) in
-    walkLeft (record { number = run .number; place = length (run .answers); entries = length entries }) (run .state .ram) (putEntries entries buffer)
+    record { number = run .number; place = length (run .answers); entries = length (entriesRan p trace) }
+
+-- with the image where the run leaves it, and the entries put as far as there is room
+abbrev pub walkOf : Panel → List ℕ → List ℕ → Walk
+walkOf p trace buffer = walkLeft (walkedOf p trace) (traceRun p trace .state .ram) (putEntries (entriesRan p trace) buffer)
+
+-- the same without the image, which is a copy
+abbrev pub walkOver : Panel → List ℕ → List ℕ → Filled Walked
+walkOver p trace buffer = filled (walkedOf p trace) (putEntries (entriesRan p trace) buffer)

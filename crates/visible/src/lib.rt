@@ -8,7 +8,7 @@ ghost use Rattle.sed1520.specs.Panel.{panelOf};
 ghost use Rattle.sed1520.specs.Verdict.{filled};
 ghost use Rattle.visible.specs.Changes.{changesSizesWrong, changesOf};
 use crate::walk::ENTRY_BYTES;
-use crate::walk::walk;
+use crate::walk::walk_over;
 use sed1520::bus::IMAGE_BYTES;
 use sed1520::registers::Chip;
 use sed1520::verdict::Verdict;
@@ -44,17 +44,13 @@ pub fn changes(left: Chip, right: Chip, ram: &[u8], trace: &[u8], entries: &mut 
     if trace.len() % RECORD_BYTES != 0 {
         return Verdict::new(3, (trace.len() / RECORD_BYTES) as u64);
     }
-    let mut first = [0u8; IMAGE_BYTES];
-    basics::copy(ram, &mut first);
-    let counted = walk(left, right, &mut first, trace, &mut entries[..0]);
+    let counted = walk_over(left, right, ram, trace, &mut entries[..0]);
     if counted.number != 0 {
         return Verdict::new(counted.number, counted.place);
     }
     if entries.len() / ENTRY_BYTES < counted.entries {
         return Verdict::new(15, counted.entries as u64);
     }
-    let mut second = [0u8; IMAGE_BYTES];
-    basics::copy(ram, &mut second);
-    let written = walk(left, right, &mut second, trace, entries);
+    let written = walk_over(left, right, ram, trace, entries);
     Verdict::new(0, written.entries as u64)
 }

@@ -5,8 +5,10 @@ ghost use lib.ListN.{length};
 ghost use Rattle.sed1520.specs.Laws.{Whole};
 ghost use Rattle.sed1520.specs.Panel.{panelOf};
 ghost use Rattle.visible.specs.Changes.{entryBytes};
-ghost use Rattle.visible.specs.Sight.{entryOf, listing, oneMore, walkLeft, walkOf};
+ghost use Rattle.visible.specs.Sight.{entryOf, listing, oneMore, walkLeft, walkOf, walkOver};
+ghost use Rattle.sed1520.specs.Verdict.{filled};
 use crate::panel::watch;
+use sed1520::bus::IMAGE_BYTES;
 use sed1520::bus::Record;
 use sed1520::registers::Chip;
 use trace::RECORD_BYTES;
@@ -61,7 +63,7 @@ fn list_entry(entries: &mut [u8], listed: usize, index: usize, left: u32, right:
 
 // The records on two chips in range over an image that may change, up to the first that is refused. The entries that
 // there is room for are written, the others counted.
-pub(crate) fn walk(left: Chip, right: Chip, ram: &mut [u8], trace: &[u8], entries: &mut [u8]) -> Walked
+fn walk(left: Chip, right: Chip, ram: &mut [u8], trace: &[u8], entries: &mut [u8]) -> Walked
     requires { ⌜ Whole (panelOf left right (now ram)) ⌝ }
     requires { ⌜ length (now trace) ≤ 65536 ⌝ }
     ensures { λ r. ⌜ walkLeft r (now (ram .exit)) (now (entries .exit))
@@ -98,4 +100,16 @@ pub(crate) fn walk(left: Chip, right: Chip, ram: &mut [u8], trace: &[u8], entrie
         place: at as u64,
         entries: listed,
     }
+}
+
+// The same over an image that stays as it is: the records run on a copy.
+pub(crate) fn walk_over(left: Chip, right: Chip, ram: &[u8], trace: &[u8], entries: &mut [u8]) -> Walked
+    requires { ⌜ Whole (panelOf left right (now ram)) ⌝ }
+    requires { ⌜ length (now trace) ≤ 65536 ⌝ }
+    ensures { λ r. ⌜ filled r (now (entries .exit))
+        ≡ walkOver (panelOf left right (now (ram .entry))) (now (trace .entry)) (now (entries .entry)) ⌝ }
+{
+    let mut image = [0u8; IMAGE_BYTES];
+    basics::copy(ram, &mut image);
+    walk(left, right, &mut image, trace, entries)
 }

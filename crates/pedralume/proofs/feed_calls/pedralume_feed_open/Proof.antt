@@ -4,6 +4,7 @@ use mathlib.Core.Path.{_≡_, sym, _∙_}
 use lib.ListN.{length, take}
 use lib.Seq.{length-take-le}
 use borrow.Author.Needs.{needs}
+use Rattle.basics.proofs.Bytes.{copied-whole}
 use Rattle.pedralume.proofs.FeedPlaces.{open-place}
 use Rattle.pedralume.proofs.FeedCallCases.{open-feed, open-chips, open-done}
 use Rattle.pedralume.proofs.feed_calls.pedralume_feed_open.Statement.{statement}
@@ -22,8 +23,12 @@ start c = c .before .before .before .before .before .before .before .before .bef
 front-length : (c : tie.After-copy-arg) → length (take 24 (start c .args .feed .now)) ≡ 24
 front-length c = length-take-le 24 (start c .args .feed .now) (omega arith)
 
-copy-requires : tie.Need-copy-requires
-copy-requires c κs = let whole : length (start c .args .chips .now) ≡ 24 = omega arith in whole ∙ sym (front-length c)
+-- the chips lie at the front as they were lent
+chips-put : (c : tie.After-copy) → c .copy .last .1 .0 ≡ start (c .before) .args .chips .now
+chips-put c =
+    let at = start (c .before) .args in
+    let whole : length (at .chips .now) ≡ 24 = omega arith in
+    c .copy .ensures ∙ copied-whole (at .chips .now) (take 24 (at .feed .now)) (whole ∙ sym (front-length (c .before)))
 
 pack-feed-requires-3 : tie.Need-pack-feed-requires-3
 pack-feed-requires-3 c κs =
@@ -34,7 +39,7 @@ returns-3 c =
     let opened = c .before .before .before .before .before .before .before .before .before .before .before .before in
     rw (c .pack-feed3 .ensures)
     (open-done _ _ (omega arith) (omega arith) _ (opened .before .before .before .chips-in .ensures) _ (opened .«open» .ensures) _
-    (c .before .before .before .before .before .before .before .copy .ensures) _ (c .before .before .before .progress-out .ensures))
+    (chips-put (c .before .before .before .before .before .before .before)) _ (c .before .before .before .progress-out .ensures))
 
 pub pedralume-feed-open-spec : {M : Type 1} → statement M
 pedralume-feed-open-spec =
@@ -48,7 +53,7 @@ pedralume-feed-open-spec =
     (λ c κs. search needs)
     (λ c. search needs)
     (λ c. sym (front-length c))
-    copy-requires
+    (λ c κs. search needs)
     (λ c. search needs)
     (λ c. search needs)
     (λ c. search needs)
