@@ -55,5 +55,6 @@ sum-one f k zero l h = absurd (omega arith)
 sum-one f k (suc n) l h =
     ⊎-elim
     (λ t. let e = eqb-true k n t in rw (e, sum-zeros f n (λ i below. h i (omega arith) (omega arith))) (omega arith))
-    (λ t. let d = eqb-false k n t in rw (h n (omega arith) (λ e. d (omega arith)), sum-one f k n (omega arith) (λ i below. h i (omega arith))) (omega arith))
+    (λ t. let d = eqb-false k n t in
+    rw (h n (omega arith) (λ e. d (omega arith)), sum-one f k n (omega arith) (λ i below. h i (omega arith))) (omega arith))
     (tested (eqb k n))

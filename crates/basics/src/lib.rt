@@ -6,7 +6,11 @@ ghost use Rattle.basics.specs.Bytes.{copied};
 pub fn copy(from: &[u8], to: &mut [u8])
     ensures { λ _. ⌜ now (to .exit) ≡ copied (now (from .entry)) (now (to .entry)) ⌝ }
 {
-    let count = if from.len() < to.len() { from.len() } else { to.len() };
+    let count = if from.len() < to.len() {
+        from.len()
+    } else {
+        to.len()
+    };
     let mut at = 0;
     while at < count {
         to[at] = from[at];

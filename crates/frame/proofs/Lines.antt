@@ -43,8 +43,12 @@ module _ (ram : List ℕ) (column : ℕ) where
       → lines ≡ byteAt ram 0 column + 0x100 * byteAt ram 1 column + 0x10000 * byteAt ram 2 column + 0x1000000 * byteAt ram 3 column
   four-pages byte =
       rw (first-eight lit 0 24, first-eight lit 8 16, first-eight lit 16 8)
-      (rw (page-lines 0 (omega arith) (byte 0), page-lines 1 (omega arith) (byte 1), page-lines 2 (omega arith) (byte 2),
-      page-lines 3 (omega arith) (byte 3)) (omega arith))
+      (rw (
+        page-lines 0 (omega arith) (byte 0),
+        page-lines 1 (omega arith) (byte 1),
+        page-lines 2 (omega arith) (byte 2),
+        page-lines 3 (omega arith) (byte 3),
+      ) (omega arith))
 
   line-bit : (k : ℕ) → k < 32 → lines / 2 ^ k % 2 ≡ lit k
   line-bit k h = let e : 0 + k ≡ k = omega arith in packed-bit lit (λ i. omega arith) 32 0 k h ∙ rw e

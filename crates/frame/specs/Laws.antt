@@ -45,8 +45,8 @@ pub record TwoPages (c : Chip) : Type 0 where
   pub duty : c .«duty_32» ≡ false
   pub line : (c .«start_line» ≡ 0) ⊎ (c .«start_line» ≡ 16)
 
--- the RAM column of a segment exists; the frame's length and where a half stands in it; its pixels and bytes out of each other; what alone a half
--- depends on; and the two whole pages, dark below
+-- the RAM column of a segment exists; the frame's length and where a half stands in it; a half's bytes by its pixels and its pixels by its bytes;
+-- what alone it depends on; and the two whole pages, dark below
 pub record HalfLaws : Type 0 where
   pub column : (c : Chip) (n : ℕ) → n < segments → columnOf c n < 80
   pub whole : (p : Panel) → length (frameOf p) ≡ frameBytes

@@ -38,7 +38,7 @@ fn turned(lines: u32, line: u8) -> u32
     ((twice >> (line % 32)) % 0x1_0000_0000) as u32
 }
 
-// The 32 pixels of a segment, row 0 lowest. Past the last segment, and over other than 320 bytes, there is none to show.
+// The 32 pixels of a segment, row 0 lowest; 0 past the last segment, and over other than 320 bytes.
 pub fn segment_pixels(chip: Chip, ram: &[u8], n: usize) -> u32
     ensures { λ r. ⌜ r ≡ segmentPixels chip (now (ram .entry)) n ⌝ }
 {
@@ -55,5 +55,9 @@ pub fn segment_pixels(chip: Chip, ram: &[u8], n: usize) -> u32
         return 0xFFFF_FFFF;
     }
     let shown = turned(column_lines(ram, column_of(chip, n)), chip.start_line);
-    if chip.duty_32 { shown } else { shown % 0x1_0000 }
+    if chip.duty_32 {
+        shown
+    } else {
+        shown % 0x1_0000
+    }
 }

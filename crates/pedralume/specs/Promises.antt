@@ -1,4 +1,4 @@
--- What is proved of the 64-bit number beside the calls' contracts.
+-- What is proved of the 64-bit number of the calls but the feed's, beside their contracts.
 use Prim.Native.Nat.{ℕ, _/_, _%_, _^_, _<_}
 use mathlib.Core.Path.{_≡_}
 use mathlib.Core.List.{List}
@@ -24,7 +24,7 @@ pub record Small (place compared differing : ℕ) : Type 0 where
   pub differing-small : differing < 65536
 
 -- the parts are read back where the number is a byte, as the code's is, and place and compared are below 65,536; place and both counts are so in all
--- that the calls give back, and in a replay by value
+-- that replay, frame, repaint and the list of changes give back, and in a replay by value
 pub record AnswersUnpack : Type 0 where
   pub parts : (n at compared differing : ℕ) → n < 256 → at < 65536 → compared < 65536 → Unpacks n at compared differing
   pub replay : (chips ram trace answers : List ℕ) → let a = replayInPlace chips ram trace answers .answer in

@@ -13,12 +13,12 @@ use Rattle.sed1520.specs.Records.{wholeRecords}
 use Rattle.sed1520.specs.Verdict.{Filled}
 use Rattle.sed1520.specs.declared.verdict.Verdict.{Verdict}
 use Rattle.trace.specs.Replay.{ReplayOutcome, ended, sizesWrong, replaySizesWrong, replayOf}
-use Rattle.visible.specs.Changes.{Entry, entriesOf, changesSizesWrong, listed, changesOf}
+use Rattle.visible.specs.Changes.{Entry, entriesOf, changesSizesWrong, listGiven, changesOf}
 use Rattle.visible.specs.Promises.{EveryCallAsReplay}
 
 -- what the call gives where a replay comes to an outcome
 abbrev givenBy : List Entry → List ℕ → ReplayOutcome → Filled Verdict
-givenBy entries buffer o = listed (o .number) (o .place) entries buffer
+givenBy entries buffer o = listGiven (o .number) (o .place) entries buffer
 
 -- room for the answers leaves the sizes that the call looks at
 same-sizes : (trace ram answers : ℕ) → 2 * (trace / 4) ≤ answers → changesSizesWrong trace ram ≡ replaySizesWrong trace ram answers

@@ -19,7 +19,8 @@ use Rattle.sed1520.specs.Verdict.{verdict, Filled, filled}
 use Rattle.sed1520.specs.declared.verdict.Verdict.{Verdict}
 use Rattle.sed1520.proofs.Records.{records-length}
 use Rattle.trace.specs.Replay.{traceRun}
-use Rattle.visible.specs.Changes.{changedAt, Entry, entryAt, entriesBefore, entriesOf, entriesBytes, changesSizesWrong, listed, changesOf}
+use Rattle.visible.specs.Changes.{changedAt, Entry, entryAt, entriesBefore, entriesOf, entriesBytes, changesSizesWrong, listGiven, changesOf}
+use Rattle.visible.specs.Promises.{EveryRefusalKeeps}
 use Rattle.visible.specs.Sight.{putEntries, entriesRan, walkedOf}
 use Rattle.visible.specs.declared.walk.Walked.{Walked}
 
@@ -73,7 +74,7 @@ passes-whole p trace pass =
 
 module _ (p : Panel) (trace buffer : List ℕ) (pass : Passes p trace) where
   on-records : let run = traceRun p trace in
-      changesOf p trace buffer ≡ listed (run .number) (length (run .answers)) (entriesOf p (wholeRecords trace)) buffer
+      changesOf p trace buffer ≡ listGiven (run .number) (length (run .answers)) (entriesOf p (wholeRecords trace)) buffer
   unfolding changesOf
   on-records = rw (pass .sizes, pass .left, pass .right, eq-eqb (length trace % 4) 0 (pass .cut))
 
@@ -118,7 +119,21 @@ places-small p trace buffer =
     (λ _. when Small (not (inRange (p .right))) (λ _. omega arith)
     (λ _. when Small (not (eqb (length trace % 4) 0)) (λ _. omega arith)
     (λ _. when Small (not (eqb (traceRun p trace .number) 0)) (λ _. omega (arith, records, ran))
-    (λ _. when Small (ltb (length buffer) (8 * length (entriesOf p (wholeRecords trace)))) (λ _. omega (arith, records, few)) (λ _. omega (arith, records, few)))))))
+    (λ _. when Small (ltb (length buffer) (8 * length (entriesOf p (wholeRecords trace)))) (λ _. omega (arith, records, few))
+    (λ _. omega (arith, records, few)))))))
   where
     Small : Filled Verdict → Type 0
     Small f = f .verdict .place < 65536
+
+pub every-refusal-keeps : EveryRefusalKeeps
+unfolding changesOf
+every-refusal-keeps p trace buffer =
+    when Keeps (changesSizesWrong (length trace) (length (p .ram))) (λ _ _. refl)
+    (λ _. when Keeps (not (inRange (p .left))) (λ _ _. refl)
+    (λ _. when Keeps (not (inRange (p .right))) (λ _ _. refl)
+    (λ _. when Keeps (not (eqb (length trace % 4) 0)) (λ _ _. refl)
+    (λ _. when Keeps (not (eqb (traceRun p trace .number) 0)) (λ _ _. refl)
+    (λ _. when Keeps (ltb (length buffer) (8 * length (entriesOf p (wholeRecords trace)))) (λ _ _. refl) (λ _ refused. absurd (refused refl)))))))
+  where
+    Keeps : Filled Verdict → Type 0
+    Keeps f = (f .verdict .number ≡ 0 → ⊥) → f .buffer ≡ buffer

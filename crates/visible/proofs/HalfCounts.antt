@@ -1,4 +1,5 @@
--- How many pixels of a half differ: by segments as they are drawn, none where the same is shown, and those of one segment where all others show the same.
+-- How many pixels of a half differ: by segments as they are drawn, none where the same is shown, and those of one segment where all others show
+-- the same.
 use Prim.Native.Nat.{ℕ, _+_, _*_, _<_, _≤_}
 use native.Mathlib.Omega.{arith}
 use mathlib.Core.Path.{_≡_, refl, _∙_}
@@ -33,8 +34,13 @@ module _ (c : Chip) (ram : List ℕ) (d : Chip) (other : List ℕ) where
   segment-counted bytes bytes′ n driven =
       sum-same _ _ 32 (λ row h.
       let e : 0 + row ≡ row = omega arith in
-      rw (rows-packed c ram n bytes driven, rows-packed d other n bytes′ driven, packed-bit (pixel c ram n) (pixel-small c ram n) 32 0 row h,
-      packed-bit (pixel d other n) (pixel-small d other n) 32 0 row h, e))
+      rw (
+        rows-packed c ram n bytes driven,
+        rows-packed d other n bytes′ driven,
+        packed-bit (pixel c ram n) (pixel-small c ram n) 32 0 row h,
+        packed-bit (pixel d other n) (pixel-small d other n) 32 0 row h,
+        e,
+      ))
 
   pub same-segment : (n : ℕ) → SameShown c d ram other n → segmentChanged c ram d other n ≡ 0
   same-segment n same =

@@ -1,4 +1,5 @@
--- What a record comes to on its own chip's half: a data write changes the segment of its column, a command what the registers say, any other record nothing.
+-- What a record comes to on its own chip's half: a data write changes the segment of its column, a command what the registers say, any other
+-- record nothing.
 use Prim.Native.Nat.{ℕ, _-_, _<_}
 use native.Mathlib.Omega.{arith}
 use mathlib.Core.Path.{_≡_, refl, sym, ap, _∙_}
@@ -22,7 +23,7 @@ use Rattle.frame.specs.Laws.{SameShown}
 use Rattle.frame.proofs.HalfLaws.{half-laws}
 use Rattle.frame.proofs.Lines.{no-segment}
 use Rattle.visible.specs.Changes.{halfChanged}
-use Rattle.visible.specs.Sight.{bitsDiffering, sameShown, halfSight, halfSightOf}
+use Rattle.visible.specs.Sight.{bitsDiffering, sameRegisters, halfSight, halfSightOf}
 use Rattle.visible.proofs.HalfCounts.{segment-counted, same-half, one-segment}
 
 -- only one segment shows the column at which a chip stands
@@ -49,16 +50,20 @@ unlike true false e same = true≢false same
 unlike false true e same = false≢true same
 unlike false false e same = true≢false e
 
-pub told-same : (c d : Chip) → sameShown c d ≡ true → shownBy d ≡ shownBy c
-unfolding sameShown
+pub told-same : (c d : Chip) → sameRegisters c d ≡ true → shownBy d ≡ shownBy c
+unfolding sameRegisters
 told-same c d t =
     let display = both (Bool·beq (c .«display_on») (d .«display_on»)) _ t in
     let static = both (Bool·beq (c .«static_on») (d .«static_on»)) _ (display .1) in
     let duty = both (Bool·beq (c .«duty_32») (d .«duty_32»)) _ (static .1) in
     let reverse = both (Bool·beq (c .reverse) (d .reverse)) _ (duty .1) in
-    rw (alike (c .«display_on») (d .«display_on») (display .0), alike (c .«static_on») (d .«static_on») (static .0),
-    alike (c .«duty_32») (d .«duty_32») (duty .0), alike (c .reverse) (d .reverse) (reverse .0),
-    eqb-true (c .«start_line») (d .«start_line») (reverse .1))
+    rw (
+      alike (c .«display_on») (d .«display_on») (display .0),
+      alike (c .«static_on») (d .«static_on») (static .0),
+      alike (c .«duty_32») (d .«duty_32») (duty .0),
+      alike (c .reverse) (d .reverse) (reverse .0),
+      eqb-true (c .«start_line») (d .«start_line») (reverse .1),
+    )
 
 -- a record's cycle, with what it gave back and left
 module _ (r : Record) (c : Chip) (ram : List ℕ) (o : Outcome) (e : o ≡ cycleOf r c ram) where
@@ -94,7 +99,7 @@ module _ (r : Record) (c : Chip) (ram : List ℕ) (o : Outcome) (e : o ≡ cycle
   unfolding sumBelow
   write-sight bytes other {n} here is-one is-two =
       let others : (m : ℕ) → m < segments → (m ≡ n → ⊥) → SameShown c next ram (o .ram) m =
-          λ m driven apart. other-segments other m driven (λ same. apart (same ∙ sym here)) in
+      λ m driven apart. other-segments other m driven (λ same. apart (same ∙ sym here)) in
       rw (is-one, is-two)
       (⊎-elim
       (λ t. let driven = ltb-true n segments t in

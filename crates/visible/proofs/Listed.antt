@@ -17,9 +17,8 @@ use Rattle.sed1520.specs.Laws.{sent}
 use Rattle.sed1520.specs.Panel.{Panel, stepped, panelTurn}
 use Rattle.sed1520.specs.declared.bus.Record.{Record}
 use Rattle.sed1520.proofs.PanelLaws.{every-record-apart}
-use Rattle.visible.specs.Changes.{before, changedAt, pixelsChanged, Entry, entryAt, entriesOf}
+use Rattle.visible.specs.Changes.{before, changedAt, pixelsChanged, Entry, entryOf, entryAt, entriesOf}
 use Rattle.visible.specs.Promises.{entryNo, Listed, Unseen, EntrySays, EveryListSays}
-use Rattle.visible.specs.Sight.{entryOf}
 use Rattle.visible.proofs.FramesSame.{no-pixels-same, same-no-pixels}
 use Rattle.visible.proofs.PanelSights.{other-pixels}
 

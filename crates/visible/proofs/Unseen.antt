@@ -11,7 +11,7 @@ use Rattle.sed1520.specs.declared.bus.Record.{Record}
 use Rattle.sed1520.proofs.PanelLaws.{every-record-apart, refused-record}
 use Rattle.frame.specs.Frame.{frameOf}
 use Rattle.visible.specs.Changes.{halfChanged, pixelsChanged}
-use Rattle.visible.specs.Promises.{EveryReadUnseen}
+use Rattle.visible.specs.Promises.{ReadsAndRefusalsUnseen}
 use Rattle.visible.proofs.FramesSame.{no-pixels-same}
 use Rattle.visible.proofs.HalfSights.{read-sight}
 use Rattle.visible.proofs.PanelSights.{half-pixels}
@@ -26,8 +26,8 @@ read-unseen p image r read = sym (no-pixels-same p (stepped p r) (none 0) (none 
     none : (k : ℕ) → pixelsChanged p (stepped p r) k ≡ 0
     none k = half-pixels p image r k ∙ when (λ (n : ℕ). n ≡ 0) (Bool·beq (eqb k 0) (eqb (r .chip) 0)) (λ _. sym own) (λ _. refl)
 
-pub every-read-unseen : EveryReadUnseen
-every-read-unseen p image r =
+pub reads-and-refusals-unseen : ReadsAndRefusalsUnseen
+reads-and-refusals-unseen p image r =
     record {
       status-read = λ e. read-unseen p image r (omega arith);
       data-read = λ e. read-unseen p image r (omega arith);

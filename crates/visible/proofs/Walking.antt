@@ -24,8 +24,8 @@ use Rattle.sed1520.specs.declared.registers.Chip.{Chip}
 use Rattle.sed1520.proofs.PanelLaws.{refused-record, stepped-whole}
 use Rattle.sed1520.proofs.Records.{recordFrom, front-at, records-length, record-at}
 use Rattle.trace.specs.Replay.{traceRun}
-use Rattle.visible.specs.Changes.{before, changedAt, pixelsChanged, Entry, entryAt, entriesBefore}
-use Rattle.visible.specs.Sight.{Sight, sightOf, watched, entryOf, Listing, listing, oneMore, putEntries, walkLeft, walkOf}
+use Rattle.visible.specs.Changes.{before, changedAt, pixelsChanged, Entry, entryOf, entryAt, entriesBefore}
+use Rattle.visible.specs.Sight.{Sight, sightOf, watched, Listing, listing, oneMore, putEntries, walkLeft, walkOf}
 use Rattle.visible.specs.declared.panel.Watched.{Watched}
 use Rattle.visible.proofs.FramesSame.{frames-told}
 use Rattle.visible.proofs.HalfCounts.{half-few}
@@ -70,7 +70,8 @@ more-few e l = when (λ (k : Listing). k .count ≤ l .count + 1) (eqb (e .left 
 here-entry : (p : Panel) (rs : List Record) (k : ℕ) (q next : Panel) → before p rs k ≡ q → before p rs (suc k) ≡ next
     → let e = entryOf k (pixelsChanged q next 0) (pixelsChanged q next 1) in
     if (changedAt p rs k) (entryAt p rs k ∷ []) [] ≡ if (eqb (e .left + e .right) 0) [] (e ∷ [])
-here-entry p rs k q next is-q is-next = rw (is-q, is-next) (rw (frames-told q next) (turned (eqb (pixelsChanged q next 0 + pixelsChanged q next 1) 0) _))
+here-entry p rs k q next is-q is-next =
+    rw (is-q, is-next) (rw (frames-told q next) (turned (eqb (pixelsChanged q next 0 + pixelsChanged q next 1) 0) _))
   where
     turned : (t : Bool) (e : Entry) → if (not t) (e ∷ []) [] ≡ if t [] (e ∷ [])
     turned true e = refl

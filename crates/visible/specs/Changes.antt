@@ -18,7 +18,7 @@ use Rattle.sed1520.specs.declared.verdict.Verdict.{Verdict}
 use Rattle.trace.specs.Replay.{traceRun}
 use Rattle.frame.specs.Frame.{segments, pixel, frameOf}
 
--- the panel before record k: that after the k records before it
+-- the panel before record k: that after the k records before it, or after those before the first that is refused
 abbrev pub before : Panel → List Record → ℕ → Panel
 before p rs k = after p (take k rs)
 
@@ -30,7 +30,7 @@ changedAt p rs k = not (sameBytes (frameOf (before p rs k)) (frameOf (before p r
 abbrev pub segmentChanged : Chip → List ℕ → Chip → List ℕ → ℕ → ℕ
 segmentChanged c ram d other n = countBelow (λ row. not (eqb (pixel c ram n row) (pixel d other n row))) 32
 
--- how many pixels of a half do
+-- how many pixels of a half differ so
 unfoldable pub halfChanged : Chip → List ℕ → Chip → List ℕ → ℕ
 halfChanged c ram d other = sumBelow (segmentChanged c ram d other) segments
 
@@ -44,11 +44,15 @@ pub record Entry : Type 0 where
   pub left : ℕ
   pub right : ℕ
 
--- that of record k
+-- an entry of three numbers
+abbrev pub entryOf : ℕ → ℕ → ℕ → Entry
+entryOf index left right = record { index = index; left = left; right = right }
+
+-- that of record k, listed or not
 abbrev pub entryAt : Panel → List Record → ℕ → Entry
 entryAt p rs k =
     let q = before p rs k in let next = before p rs (suc k) in
-    record { index = k; left = pixelsChanged q next 0; right = pixelsChanged q next 1 }
+    entryOf k (pixelsChanged q next 0) (pixelsChanged q next 1)
 
 -- the entries of the first n records, in the order of the trace
 abbrev pub entriesBefore : Panel → List Record → ℕ → List Entry
@@ -70,19 +74,19 @@ entriesBytes entries = flatMap entryBytes entries
 unfoldable pub changesSizesWrong : ℕ → ℕ → Bool
 changesSizesWrong trace ram = ltb 65536 trace || not (eqb ram 640)
 
--- how the records ended: a number other than 0 with its place; then number 15 where the entries need more than the room, with their full number
--- as place; then their number as place and their bytes at the front of the buffer, the rest as it was
-abbrev pub listed : ℕ → ℕ → List Entry → List ℕ → Filled Verdict
-listed number place entries buffer =
+-- how the records ended: refused, with that number and place; then 15 where the entries need more than the room, with how many they are as place;
+-- else 0, with how many they are as place, and their bytes at the front of the buffer, the rest as it was; a refusal leaves the buffer as it came
+abbrev pub listGiven : ℕ → ℕ → List Entry → List ℕ → Filled Verdict
+listGiven number place entries buffer =
     if (not (eqb number 0)) (filled (verdict number place) buffer)
     (if (ltb (length buffer) (8 * length entries)) (filled (verdict 15 (length entries)) buffer)
     (filled (verdict 0 (length entries)) (entriesBytes entries ++ drop (8 * length entries) buffer)))
 
--- numbers 1, 2 (left before right) and 3, then the records; a refusal leaves the buffer as it came
+-- numbers 1, 2 (left before right) and 3, then the records
 unfoldable pub changesOf : Panel → List ℕ → List ℕ → Filled Verdict
 changesOf p trace buffer =
     if (changesSizesWrong (length trace) (length (p .ram))) (filled (verdict 1 0) buffer)
     (if (not (inRange (p .left))) (filled (verdict 2 0) buffer)
     (if (not (inRange (p .right))) (filled (verdict 2 1) buffer)
     (if (not (eqb (length trace % 4) 0)) (filled (verdict 3 (length trace / 4)) buffer)
-    (let run = traceRun p trace in listed (run .number) (length (run .answers)) (entriesOf p (wholeRecords trace)) buffer))))
+    (let run = traceRun p trace in listGiven (run .number) (length (run .answers)) (entriesOf p (wholeRecords trace)) buffer))))

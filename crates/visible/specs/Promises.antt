@@ -1,4 +1,4 @@
--- What is proved of the entries beside the call's contract, and which records nobody can see.
+-- What is proved beside the call's contract: of the entries, of the records that nobody can see, and of what is refused.
 use Prim.Native.Nat.{ℕ, suc, _+_, _*_, _/_, _<_, _≤_}
 use mathlib.Core.Path.{_≡_}
 use mathlib.Core.List.{List, _++_}
@@ -10,8 +10,7 @@ use Rattle.sed1520.specs.Verdict.{verdict, filled}
 use Rattle.sed1520.specs.declared.bus.Record.{Record}
 use Rattle.trace.specs.Replay.{replayOf}
 use Rattle.frame.specs.Frame.{frameOf}
-use Rattle.visible.specs.Changes.{before, Entry, entryAt, entriesOf, entriesBytes, changesOf}
-use Rattle.visible.specs.Sight.{entryOf}
+use Rattle.visible.specs.Changes.{before, Entry, entryOf, entryAt, entriesOf, entriesBytes, changesOf}
 
 -- entry i of the list
 abbrev pub entryNo : Panel → List Record → ℕ → Entry
@@ -25,8 +24,8 @@ Listed p rs k = (i : ℕ) × ((i < length (entriesOf p rs)) × (entryNo p rs i .
 abbrev pub Unseen : Panel → List Record → ℕ → Type 0
 Unseen p rs k = frameOf (before p rs (suc k)) ≡ frameOf (before p rs k)
 
--- entry i: it is of a record of the trace, after which the frame differs from before it; its two counts are those of the pixels that differ, which
--- are not both 0; and as a record goes to one chip, one of them is
+-- entry i is of a record of the trace, after which the frame differs from before it; its two counts are how many pixels of the halves differ; they
+-- are not both 0, and one is 0, as a record goes to one chip
 pub record EntrySays (p : Panel) (rs : List Record) (i : ℕ) : Type 0 where
   pub within : entryNo p rs i .index < length rs
   pub counts : entryNo p rs i ≡ entryAt p rs (entryNo p rs i .index)
@@ -53,11 +52,11 @@ pub record LeavesFrame (p : Panel) (r : Record) : Type 0 where
   pub refused : (outcomeOf p r .answer .number ≡ 0 → ⊥) → frameOf (stepped p r) ≡ frameOf p
 
 -- on any panel of 640 bytes
-abbrev pub EveryReadUnseen : Type 0
-EveryReadUnseen = (p : Panel) → length (p .ram) ≡ 640 → (r : Record) → LeavesFrame p r
+abbrev pub ReadsAndRefusalsUnseen : Type 0
+ReadsAndRefusalsUnseen = (p : Panel) → length (p .ram) ≡ 640 → (r : Record) → LeavesFrame p r
 
--- the call refuses what a replay refuses that has room for its answers, with its number and place; then number 15 where the entries need more than the
--- room, with their full number as place; else it gives them all
+-- the call refuses what a replay refuses that has room for its answers, with its number and place; then number 15 where the entries need more
+-- than the room, with their full number as place; else it gives them all
 pub record AsReplay (p : Panel) (trace answers buffer : List ℕ) : Type 0 where
   pub refused : (replayOf p trace answers .number ≡ 0 → ⊥)
       → changesOf p trace buffer ≡ filled (verdict (replayOf p trace answers .number) (replayOf p trace answers .place)) buffer
@@ -69,3 +68,8 @@ pub record AsReplay (p : Panel) (trace answers buffer : List ℕ) : Type 0 where
 -- whatever is lent
 abbrev pub EveryCallAsReplay : Type 0
 EveryCallAsReplay = (p : Panel) (trace answers buffer : List ℕ) → 2 * (length trace / 4) ≤ length answers → AsReplay p trace answers buffer
+
+-- any refusal changes nothing
+abbrev pub EveryRefusalKeeps : Type 0
+EveryRefusalKeeps =
+    (p : Panel) (trace buffer : List ℕ) → (changesOf p trace buffer .verdict .number ≡ 0 → ⊥) → changesOf p trace buffer .buffer ≡ buffer

@@ -1,4 +1,5 @@
--- What one record comes to, as far as the list of changes looks at it: on the panel, and on the half of its own chip.
+-- What the inner functions give back and leave: a record on the half of its own chip and on the panel, an entry put into the buffer, and the walk
+-- over all records.
 use Prim.Native.Nat.{ℕ, _+_, _*_, _/_, _%_, _^_}
 use mathlib.Core.Bool.{Bool, not, _&&_, Bool·beq}
 use mathlib.Core.List.{List, _++_}
@@ -57,14 +58,10 @@ abbrev pub watched : Watched → List ℕ → Sight
 watched w ram = sight (w .number) (panelOf (w .left) (w .right) ram) (w .«left_pixels») (w .«right_pixels»)
 
 -- whether two chips are alike in the registers that a frame looks at
-unfoldable pub sameShown : Chip → Chip → Bool
-sameShown c d =
+unfoldable pub sameRegisters : Chip → Chip → Bool
+sameRegisters c d =
     Bool·beq (c .«display_on») (d .«display_on») && (Bool·beq (c .«static_on») (d .«static_on») && (Bool·beq (c .«duty_32») (d .«duty_32»)
     && (Bool·beq (c .reverse) (d .reverse) && eqb (c .«start_line») (d .«start_line»))))
-
--- an entry of three numbers
-abbrev pub entryOf : ℕ → ℕ → ℕ → Entry
-entryOf index left right = record { index = index; left = left; right = right }
 
 -- how many entries there are, and the buffer with those that it has room for
 pub record Listing : Type 0 where
@@ -108,7 +105,7 @@ walkedOf p trace =
     let run = traceRun p trace in
     record { number = run .number; place = length (run .answers); entries = length (entriesRan p trace) }
 
--- with the image where the run leaves it, and the entries put as far as there is room
+-- with the image as the run leaves it, and the entries put as far as there is room
 abbrev pub walkOf : Panel → List ℕ → List ℕ → Walk
 walkOf p trace buffer = walkLeft (walkedOf p trace) (traceRun p trace .state .ram) (putEntries (entriesRan p trace) buffer)
 

@@ -1,12 +1,11 @@
 // One record on one chip: how many pixels of its half it changes. Only what the record can change is drawn: nothing for a
-// read, one segment for a data write, the half for a command that changes what the chip shows.
-ghost use Prim.Native.Nat.{_-_, _≤_};
+// read, one segment for a data write, the half for a command that changes a register that a frame looks at.
 ghost use mathlib.Core.Path.{_≡_};
 ghost use lib.ListN.{length};
 ghost use Rattle.frame.specs.Frame.{columnOf};
 ghost use Rattle.sed1520.specs.Laws.{Fit};
 ghost use Rattle.visible.specs.Changes.{halfChanged};
-ghost use Rattle.visible.specs.Sight.{bitsDiffering, sameShown, halfSight, halfSightOf};
+ghost use Rattle.visible.specs.Sight.{bitsDiffering, sameRegisters, halfSight, halfSightOf};
 use frame::segment::segment_pixels;
 use sed1520::bus::Record;
 use sed1520::bus::cycle;
@@ -42,9 +41,9 @@ fn half_differing(before: Chip, after: Chip, ram: &[u8]) -> u32
     pixels
 }
 
-// Whether two chips show the same of the same RAM, by their registers.
-fn same_shown(one: Chip, other: Chip) -> bool
-    ensures { λ r. ⌜ r ≡ sameShown one other ⌝ }
+// Whether two chips are alike in the registers that a frame looks at.
+fn same_registers(one: Chip, other: Chip) -> bool
+    ensures { λ r. ⌜ r ≡ sameRegisters one other ⌝ }
 {
     (one.display_on == other.display_on)
         & ((one.static_on == other.static_on)
@@ -52,7 +51,8 @@ fn same_shown(one: Chip, other: Chip) -> bool
                 & ((one.reverse == other.reverse) & (one.start_line == other.start_line))))
 }
 
-// The segment that shows the column at which a chip stands; where no column is there, none is written and any will do.
+// The segment that shows the column at which a chip stands; past the last segment the column is not shown. From column 80
+// on nothing is written, and any number will do.
 fn segment_at(chip: Chip) -> usize
     ensures { λ r. ⌜ r ≡ columnOf chip (chip .column) ⌝ }
 {
@@ -82,7 +82,7 @@ fn watch_write(bus: Record, chip: Chip, ram: &mut [u8]) -> Seen
     }
 }
 
-// A command: it can change the half where it changes what the chip shows.
+// A command: it can change the half only where it changes a register that a frame looks at.
 fn watch_command(bus: Record, chip: Chip, ram: &mut [u8]) -> Seen
     requires { ⌜ Fit chip (now ram) ⌝ }
     requires { ⌜ bus .lines ≡ 2 ⌝ }
@@ -90,7 +90,7 @@ fn watch_command(bus: Record, chip: Chip, ram: &mut [u8]) -> Seen
 {
     let answer = cycle(bus, chip, ram);
     let next = answer.chip;
-    if same_shown(chip, next) {
+    if same_registers(chip, next) {
         return Seen {
             number: answer.number,
             chip: next,

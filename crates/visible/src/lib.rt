@@ -1,7 +1,7 @@
 // What of a trace a reader can see: the records that changed what the panel shows.
 mod half;
 mod panel;
-pub mod walk;
+mod walk;
 
 ghost use mathlib.Core.Path.{_≡_};
 ghost use Rattle.sed1520.specs.Panel.{panelOf};
@@ -44,11 +44,12 @@ pub fn changes(left: Chip, right: Chip, ram: &[u8], trace: &[u8], entries: &mut 
     if trace.len() % RECORD_BYTES != 0 {
         return Verdict::new(3, (trace.len() / RECORD_BYTES) as u64);
     }
+    let room = entries.len();
     let counted = walk_over(left, right, ram, trace, &mut entries[..0]);
     if counted.number != 0 {
         return Verdict::new(counted.number, counted.place);
     }
-    if entries.len() / ENTRY_BYTES < counted.entries {
+    if room / ENTRY_BYTES < counted.entries {
         return Verdict::new(15, counted.entries as u64);
     }
     let written = walk_over(left, right, ram, trace, entries);

@@ -1,11 +1,11 @@
 // The records of a trace one after the other, and an entry for each that changed what the panel shows.
-ghost use Prim.Native.Nat.{_/_, _<_, _≤_};
+ghost use Prim.Native.Nat.{_<_, _≤_};
 ghost use mathlib.Core.Path.{_≡_};
 ghost use lib.ListN.{length};
 ghost use Rattle.sed1520.specs.Laws.{Whole};
 ghost use Rattle.sed1520.specs.Panel.{panelOf};
-ghost use Rattle.visible.specs.Changes.{entryBytes};
-ghost use Rattle.visible.specs.Sight.{entryOf, listing, oneMore, walkLeft, walkOf, walkOver};
+ghost use Rattle.visible.specs.Changes.{entryOf, entryBytes};
+ghost use Rattle.visible.specs.Sight.{listing, oneMore, walkLeft, walkOf, walkOver};
 ghost use Rattle.sed1520.specs.Verdict.{filled};
 use crate::panel::watch;
 use sed1520::bus::IMAGE_BYTES;
@@ -14,7 +14,7 @@ use sed1520::registers::Chip;
 use trace::RECORD_BYTES;
 
 // The bytes of an entry.
-pub const ENTRY_BYTES: usize = 8;
+pub(crate) const ENTRY_BYTES: usize = 8;
 
 // 0 or the number by which a record was refused, how many records ran before it, and how many of these have an entry.
 pub(crate) struct Walked {
@@ -61,8 +61,8 @@ fn list_entry(entries: &mut [u8], listed: usize, index: usize, left: u32, right:
     listed + 1
 }
 
-// The records on two chips in range over an image that may change, up to the first that is refused. The entries that
-// there is room for are written, the others counted.
+// The records on two chips in range over an image that may change, up to the first that is refused. All entries are counted,
+// and those that there is room for are written.
 fn walk(left: Chip, right: Chip, ram: &mut [u8], trace: &[u8], entries: &mut [u8]) -> Walked
     requires { ⌜ Whole (panelOf left right (now ram)) ⌝ }
     requires { ⌜ length (now trace) ≤ 65536 ⌝ }
@@ -103,7 +103,13 @@ fn walk(left: Chip, right: Chip, ram: &mut [u8], trace: &[u8], entries: &mut [u8
 }
 
 // The same over an image that stays as it is: the records run on a copy.
-pub(crate) fn walk_over(left: Chip, right: Chip, ram: &[u8], trace: &[u8], entries: &mut [u8]) -> Walked
+pub(crate) fn walk_over(
+    left: Chip,
+    right: Chip,
+    ram: &[u8],
+    trace: &[u8],
+    entries: &mut [u8],
+) -> Walked
     requires { ⌜ Whole (panelOf left right (now ram)) ⌝ }
     requires { ⌜ length (now trace) ≤ 65536 ⌝ }
     ensures { λ r. ⌜ filled r (now (entries .exit))

@@ -23,19 +23,31 @@ abbrev μ-loop : tie.MeasureT-loop
 μ-loop from to₀ count at₀ to at = count - at
 
 loop-holds : tie.Need-loop-holds Inv-loop μ-loop
-loop-holds c =
-    (omega arith, (refl, (begun-none _, ⊎-elim
-    (λ h. record { enough = omega (arith, h .1); room = omega (arith, h .1, h .0 .taken); full = λ l. omega (arith, h .1) })
-    (λ h. record { enough = omega (arith, h .1, h .0 .left); room = omega (arith, h .1); full = λ l. omega (arith, h .1) })
-    (c .if1 .came))))
+loop-holds c = (
+  omega arith,
+  (
+    refl,
+    (
+      begun-none _,
+      ⊎-elim
+          (λ h. record { enough = omega (arith, h .1); room = omega (arith, h .1, h .0 .taken); full = λ l. omega (arith, h .1) })
+          (λ h. record { enough = omega (arith, h .1, h .0 .left); room = omega (arith, h .1); full = λ l. omega (arith, h .1) })
+          (c .if1 .came),
+    ),
+  ),
+)
 
 loop-again : tie.Need-loop-again Inv-loop μ-loop
 loop-again c =
     let held = c .before .before .loop .inv in
     let most = held .1 .1 .1 in
-    let here = c .before .loop-test .taken in
-    (omega arith, (simp length-set (held .1 .0),
-    (copied-more _ (held .1 .1 .0) (omega (arith, most .enough)) (omega (arith, most .room)), most)))
+    let here = c .before .loop-test .taken in (
+      omega arith,
+      (
+        simp length-set (held .1 .0),
+        (copied-more _ (held .1 .1 .0) (omega (arith, most .enough)) (omega (arith, most .room)), most),
+      ),
+    )
 
 returns : tie.Need-returns Inv-loop μ-loop
 returns c =

@@ -84,9 +84,8 @@ returns-6 : tie.Need-returns-6
 returns-6 c =
     let done = c .before .before .before in
     let walk = done .before .before .before .before in
-    let more = rw (unwritten walk) at (c .before .if6 .taken) in
     rw (c .new6 .ensures, unwritten walk)
-    (sym (short _ _ _ (passed (walk .before .before)) _ (counted walk) (omega arith) more))
+    (sym (short _ _ _ (passed (walk .before .before)) _ (counted walk) (omega arith) (c .before .if6 .taken)))
 
 -- the first walk, from past the test of the room
 abbrev first-walk : tie.Else6 → tie.After-walk-over
@@ -103,10 +102,9 @@ returns-7 c =
     let second = c .before .before .before in
     let fits = second .before .before in
     let walk = first-walk fits in
-    let room = rw (unwritten walk) at (fits .if6 .left) in
     rw (c .new7 .ensures)
     (ap (λ (f : Filled Walked). filled (verdict 0 (f .verdict .entries)) (f .buffer)) (written second)
-    ∙ sym (all-listed _ _ _ (passed (walk .before .before)) _ (counted walk) (omega arith) room))
+    ∙ sym (all-listed _ _ _ (passed (walk .before .before)) _ (counted walk) (omega arith) (fits .if6 .left)))
 
 same-length-3 : tie.Need-same-length-3
 same-length-3 c =

@@ -38,14 +38,16 @@ returns-5 c =
     let at = start (driven .before .before .before) .args in
     c .before .turned .ensures
     ∙ rw (c .before .before .column-lines .ensures, c .before .before .before .column-of .ensures)
-    (sym (segment-lines (at .chip) (at .ram .now) (at .n) (omega arith) (omega arith) (driven .before .if3 .left) (driven .if4 .left) (c .if5 .taken)))
+    (sym (segment-lines (at .chip) (at .ram .now) (at .n) (omega arith) (omega arith)
+    (driven .before .if3 .left) (driven .if4 .left) (c .if5 .taken)))
 
 returns-6 : tie.Need-returns-6
 returns-6 c =
     let driven = c .before .before .before .before in
     let at = start (driven .before .before .before) .args in
     rw (c .before .turned .ensures, c .before .before .column-lines .ensures, c .before .before .before .column-of .ensures)
-    (sym (segment-upper (at .chip) (at .ram .now) (at .n) (omega arith) (omega arith) (driven .before .if3 .left) (driven .if4 .left) (c .if5 .left)))
+    (sym (segment-upper (at .chip) (at .ram .now) (at .n) (omega arith) (omega arith)
+    (driven .before .if3 .left) (driven .if4 .left) (c .if5 .left)))
 
 pub segment-pixels-spec : {M : Type 1} → statement M
 segment-pixels-spec =

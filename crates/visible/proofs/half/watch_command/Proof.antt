@@ -19,7 +19,7 @@ returns c =
     let at = start ran .args in
     seen (at .bus) (at .chip) (at .ram .now) _ (ran .cycle .ensures) _
     (same-sight (at .bus) (at .chip) (at .ram .now) _ (ran .cycle .ensures) (λ e. omega (arith, start ran .pre .1))
-    (told-same _ _ (sym (told .same-shown .ensures) ∙ c .if1 .taken)))
+    (told-same _ _ (sym (told .same-registers .ensures) ∙ c .if1 .taken)))
 
 half-differing-requires : tie.Need-half-differing-requires
 half-differing-requires c κs =

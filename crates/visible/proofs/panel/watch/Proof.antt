@@ -41,7 +41,7 @@ put-right : (c : tie.After-watch-half2) → let ram = right-start c .args .ram .
 put-right c =
     let ram = right-start c .args .ram .now in
     let behind : drop (length ram - 320) (drop 320 ram) ≡ [] =
-        drop-of-length-le (drop 320 ram) {i = length ram - 320} (simp length-drop (omega arith)) in
+    drop-of-length-le (drop 320 ram) {i = length ram - 320} (simp length-drop (omega arith)) in
     rw (behind, append-nil (c .watch-half2 .last .1 .1 .0))
 
 same-length-2 : tie.Need-same-length-2

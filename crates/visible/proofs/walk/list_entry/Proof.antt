@@ -34,8 +34,13 @@ returns-3 c =
     let to = 8 * at .listed in
     let width : to + 8 - to ≡ 8 = omega arith in
     let bytes = put .put-entry .ensures in
-    rw (ne-eqb (at .left + at .right) 0 (free .before .if1 .left), lt-ltb (at .listed) (length (at .entries .now) / 8) (free .if2 .left), width, bytes,
-    drop-drop 8 to (at .entries .now))
+    rw (
+      ne-eqb (at .left + at .right) 0 (free .before .if1 .left),
+      lt-ltb (at .listed) (length (at .entries .now) / 8) (free .if2 .left),
+      width,
+      bytes,
+      drop-drop 8 to (at .entries .now),
+    )
 
 pub list-entry-spec : {M : Type 1} → statement M
 list-entry-spec =

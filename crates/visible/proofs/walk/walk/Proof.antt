@@ -38,9 +38,13 @@ returns c =
 list-entry-requires : tie.Need-list-entry-requires Inv-loop μ-loop
 list-entry-requires c κs =
     let seen = c .before .before .before .before .before in
-    let upto = head seen .loop .inv in
-    (omega (arith, upto .few, upto .size), (omega (arith, upto .size),
-    (left-few upto (omega arith) (seen .watch .ensures), right-few upto (omega arith) (seen .watch .ensures))))
+    let upto = head seen .loop .inv in (
+      omega (arith, upto .few, upto .size),
+      (
+        omega (arith, upto .size),
+        (left-few upto (omega arith) (seen .watch .ensures), right-few upto (omega arith) (seen .watch .ensures)),
+      ),
+    )
 
 loop-again : tie.Need-loop-again Inv-loop μ-loop
 loop-again c =
