@@ -1,11 +1,13 @@
 /*
  * Times the archive against the plain implementation: each record of a full trace (16,384 records),
- * each frame, each repaint; and the archive's feed, in parts of several lengths, against its own replay
- * of the same trace. Both sides get the same bytes. The jobs are gone through in rounds, and within a
- * job the two take turns, so that all see the same machine; the best turn of each counts.
+ * each frame, each repaint; each record of a full trace whose changes are listed; and the archive's feed,
+ * in parts of several lengths, against its own replay of the same trace. Both sides get the same bytes.
+ * The jobs are gone through in rounds, and within a job the two take turns, so that all see the same
+ * machine; the best turn of each counts.
  *
- * Usage: bench [LIMIT [FEED_LIMIT]]: fails where a ratio of a replay or a frame is over LIMIT, or that of
- * a feed in parts of 512 bytes or more over FEED_LIMIT; - is no limit.
+ * Usage: bench [LIMIT [FEED_LIMIT [CHANGES_LIMIT]]]: fails where a ratio of a replay or a frame is over
+ * LIMIT, that of a feed in parts of 512 bytes or more over FEED_LIMIT, or one of changes over
+ * CHANGES_LIMIT; - is no limit.
  */
 #define _POSIX_C_SOURCE 199309L
 #include "../test/support.h"
@@ -18,7 +20,7 @@ enum { ROUNDS = 200, TURNS_A_ROUND = 5, CALLS_A_TURN = 128, MOST_JOBS = 32 };
 enum { ARCHIVE, PLAIN, FED = ARCHIVE, REPLAYED = PLAIN };
 
 /* Which limit a job's ratio is held to. */
-enum { LIMIT, FEED_LIMIT, LIMITS, NO_LIMIT = LIMITS };
+enum { LIMIT, FEED_LIMIT, CHANGES_LIMIT, LIMITS, NO_LIMIT = LIMITS };
 
 static double now_ns(void)
 {
@@ -33,6 +35,7 @@ struct job {
     const char *side[2];
     unsigned limit;
     size_t place;       /* the answer's, done */
+    size_t entries;     /* bytes lent for entries, 0 but for changes */
     double (*turn)(const struct job *, unsigned side, uint64_t *answer);
     const void *input;  /* struct load, struct painting or struct feeding, as turn takes it */
     double best[2];
@@ -46,14 +49,17 @@ static void add(struct job job)
     jobs[job_count++] = job;
 }
 
-/* What a turn of either has written, as the turn lays it out. */
+/* What a turn of either has written, as the turn lays it out; entries have a place of their own. */
 static uint8_t written[2][CHIPS + RAM + 2 * RECORDS_MAX];
+static uint8_t listed[2][ENTRIES_MAX];
 
 /* A timing of different work would say nothing. */
 static void must_agree(const struct job *job, const uint64_t answer[2])
 {
     bool whole = (answer[ARCHIVE] & 0xFFFFFFu) == answer_of(0, job->place, 0, 0);
-    if (whole && answer[ARCHIVE] == answer[PLAIN] && memcmp(written[ARCHIVE], written[PLAIN], sizeof written[PLAIN]) == 0)
+    bool same = memcmp(written[ARCHIVE], written[PLAIN], sizeof written[PLAIN]) == 0
+             && memcmp(listed[ARCHIVE], listed[PLAIN], job->entries) == 0;
+    if (whole && answer[ARCHIVE] == answer[PLAIN] && same)
         return;
     printf("bench: %s: the two do not do the same whole work\n", job->name);
     exit(EXIT_FAILURE);
@@ -76,6 +82,9 @@ static double ratio(const struct job *job)
 {
     return job->best[ARCHIVE] / job->best[PLAIN];
 }
+
+/* The switches of a chip record; page, column and read latch are as in a fresh one. */
+#define SWITCHES(display, static_drive, duty, adc, start_line) display, static_drive, duty, adc, 0, 0, start_line, 0, 0, 0, 0, 0
 
 /* ---- replays ---- */
 
@@ -143,7 +152,7 @@ static void add_replay(const char *name, struct load *load, void (*fill)(struct 
     memcpy(load->chips, fresh, CHIPS);
     random_bytes(&g, load->ram, RAM);
     fill(load, &g);
-    add((struct job){ name, "record", { "archive", "plain" }, LIMIT, RECORDS_MAX, replay_turn, load, { 0, 0 } });
+    add((struct job){ name, "record", { "archive", "plain" }, LIMIT, RECORDS_MAX, 0, replay_turn, load, { 0, 0 } });
 }
 
 #ifdef WITH_FEED
@@ -193,7 +202,7 @@ static void add_feeds(const char *const names[4], const struct load *load)
         struct feeding *f = &feedings[job_count];
         *f = (struct feeding){ load, part[i] };
         add((struct job){ names[i], "record", { "feed", "replay" }, part[i] < 512 ? NO_LIMIT : FEED_LIMIT, RECORDS_MAX,
-                          feed_turn, f, { 0, 0 } });
+                          0, feed_turn, f, { 0, 0 } });
     }
 }
 
@@ -231,9 +240,6 @@ static void fill_source(struct painting *p)
     random_bytes(&g, p->source, p->source_len);
 }
 
-/* The switches of a chip record; page, column and read latch do not matter here. */
-#define SWITCHES(display, static_drive, duty, adc, start_line) display, static_drive, duty, adc, 0, 0, start_line, 0, 0, 0, 0, 0
-
 /* Start lines 5 and 18 cross pages. */
 static struct painting frames[] = {
     { .chips = { SWITCHES(1, 0, 1, 0, 5), SWITCHES(1, 0, 1, 0, 18) } },
@@ -251,7 +257,7 @@ static void add_frame(const char *name, struct painting *p)
     p->source_len = RAM;
     p->output_len = FRAME;
     fill_source(p);
-    add((struct job){ name, "frame", { "archive", "plain" }, LIMIT, FRAME, painting_turn, p, { 0, 0 } });
+    add((struct job){ name, "frame", { "archive", "plain" }, LIMIT, FRAME, 0, painting_turn, p, { 0, 0 } });
 }
 
 #endif
@@ -268,7 +274,45 @@ static void add_repaint(const char *name)
         .output_len = REPAINT,
     };
     fill_source(&p);
-    add((struct job){ name, "repaint", { "archive", "plain" }, NO_LIMIT, REPAINT_RECORDS, painting_turn, &p, { 0, 0 } });
+    add((struct job){ name, "repaint", { "archive", "plain" }, NO_LIMIT, REPAINT_RECORDS, 0, painting_turn, &p, { 0, 0 } });
+}
+
+#endif
+
+#ifdef WITH_CHANGES
+
+/* ---- changes ---- */
+
+/* Clears the entries, outside of the timed part; chips and RAM are only read. */
+static double changes_turn(const struct job *job, unsigned side, uint64_t *answer)
+{
+    const struct load *load = job->input;
+    changes_call *const changes = side == ARCHIVE ? pedralume_changes : plain_changes;
+    memset(listed[side], 0, job->entries);
+    double start = now_ns();
+    *answer = changes(load->chips, CHIPS, load->ram, RAM, load->trace.bytes, load->trace.len, listed[side], job->entries);
+    return (now_ns() - start) / RECORDS_MAX;
+}
+
+/* The mixed trace with the displays mostly on, so that commands are seen too. */
+static void fill_shown(struct load *load, struct rng *g)
+{
+    put_shown(&load->trace, g, load->chips, RECORDS_MAX);
+}
+
+/* Both chips show RAM at first, all 32 rows of it. */
+static void add_changes(const char *name, struct load *load, void (*fill)(struct load *, struct rng *))
+{
+    static const uint8_t showing[CHIPS] = { SWITCHES(1, 0, 1, 0, 0), SWITCHES(1, 0, 1, 0, 0) };
+    struct rng g = { 1520 };
+    uint8_t no_room[1];
+    memcpy(load->chips, showing, CHIPS);
+    random_bytes(&g, load->ram, RAM);
+    fill(load, &g);
+    uint64_t need = plain_changes(load->chips, CHIPS, load->ram, RAM, load->trace.bytes, load->trace.len, no_room, 0);
+    size_t place = pedralume_place(need);
+    printf("bench: %s: %zu of the records are listed\n", name, place);
+    add((struct job){ name, "record", { "archive", "plain" }, CHANGES_LIMIT, place, ENTRIES_MAX, changes_turn, load, { 0, 0 } });
 }
 
 #endif
@@ -297,13 +341,19 @@ static void add_jobs(void)
     add_feeds(FEED_NAMES("all reads"), &reads);
     add_feeds(FEED_NAMES("mixed"), &mixed);
 #endif
+#ifdef WITH_CHANGES
+    static struct load seen_writes, seen_mixed, seen_shown;
+    add_changes("changes, all writes", &seen_writes, fill_writes);
+    add_changes("changes, mixed", &seen_mixed, fill_mixed);
+    add_changes("changes, mixed, mostly shown", &seen_shown, fill_shown);
+#endif
 }
 
 static void run_jobs(void)
 {
     printf("bench: best of %u turns in %u rounds; a turn is a trace of %u records, chips and RAM restored and the\n"
            "       answers cleared before, untimed, or %u frames or repaints; a feed is opened before, untimed,\n"
-           "       and given the trace in parts of so many bytes\n",
+           "       and given the trace in parts of so many bytes; of changes the entries are cleared before, untimed\n",
            (unsigned)(ROUNDS * TURNS_A_ROUND), (unsigned)ROUNDS, (unsigned)RECORDS_MAX, (unsigned)CALLS_A_TURN);
     for (unsigned round = 0; round < ROUNDS; round++)
         for (size_t i = 0; i < job_count; i++)
@@ -316,7 +366,7 @@ static void run_jobs(void)
 /* Whether no job that this limit is for has a ratio over it. */
 static bool holds(unsigned which, double limit)
 {
-    static const char *const whose[LIMITS] = { "a replay or a frame", "a feed in parts of 512 bytes or more" };
+    static const char *const whose[LIMITS] = { "a replay or a frame", "a feed in parts of 512 bytes or more", "changes" };
     unsigned held = 0, over = 0;
     for (const struct job *job = jobs; job < jobs + job_count; job++) {
         if (job->limit != which)
@@ -352,7 +402,7 @@ int main(int argc, char **argv)
     for (int i = 1; good && i < argc; i++)
         good = read_limit(argv[i], &limit[i - 1]);
     if (!good) {
-        fprintf(stderr, "Usage: bench [LIMIT [FEED_LIMIT]], each a ratio over 0, or - for none\n");
+        fprintf(stderr, "Usage: bench [LIMIT [FEED_LIMIT [CHANGES_LIMIT]]], each a ratio over 0, or - for none\n");
         return 2;
     }
     add_jobs();

@@ -1,18 +1,19 @@
 /*
  * pedralume.h: a model of two SED1520 chips behind one 122 by 32 panel.
  *
- * Six calls:
+ * Seven calls:
  *   pedralume_replay      replays a recorded bus trace on both chips
  *   pedralume_frame       gives the 122 by 32 pixels the panel shows
  *   pedralume_repaint     writes the bus records that bring a 122 by 16 picture to the panel
  *   pedralume_feed_open   begins a replay of a trace that comes in parts
  *   pedralume_feed_part   takes the next part of it, cut anywhere
  *   pedralume_feed_close  ends it
+ *   pedralume_changes     lists the records of a trace that changed what the panel shows
  *
  * Chip 0 is the left one, chip 1 the right one.
  *
  * Words. The papers that fix the behaviour, documents 01 and 02, say "holder" for the read latch,
- * "room" for repaint's output buffer and "glass" for the panel.
+ * "room" for repaint's output buffer and changes' entries buffer, and "glass" for the panel.
  *
  *
  * WHO OWNS WHAT
@@ -59,8 +60,8 @@
  *   chip   0 or 1
  *   data   the byte written, or for a read the byte that the recorder saw
  *
- * A trace has no header and may be empty. Replay takes at most 65,536 bytes (16,384 records) at once;
- * a longer trace goes through a feed.
+ * A trace has no header and may be empty. Replay and changes take at most 65,536 bytes (16,384 records)
+ * at once; a longer trace is replayed through a feed and listed in blocks.
  *
  * Commands:
  *   00-7F  column = byte; read latch stale      A0 A1  ADC forward, reverse
@@ -172,23 +173,45 @@
  * close closes nothing, and the feed is as it was: the next call is as if the refused one had not been.
  *
  *
+ * ENTRY OF A CHANGE, 8 bytes, each number lowest byte first
+ *
+ *   byte  field
+ *   0-3   record, counted from 0
+ *   4-5   pixels changed in the left half, 0 to 1,952
+ *   6-7   pixels changed in the right half, 0 to 1,952
+ *
+ * Changes lists each record after which the 488 bytes of the frame differ from those before it, once, in
+ * the order of the trace. A pixel that lights and one that goes dark both count. What no reader can see
+ * is not listed: a read, a data write of the byte that stands there or to a cell that is not shown, a
+ * command that leaves every pixel as it is. A record is for one chip, so in each entry one count is 0; the
+ * other is not.
+ *
+ * Chips and RAM are those before the trace and are only read. The entries buffer may have any length:
+ * 8 bytes for each record of the trace are always enough, for any trace PEDRALUME_ENTRIES_MAX_BYTES. One
+ * of length 0 asks how many entries there are: 15 has their number as place, and 0 is given where there
+ * are none. To list a trace over 65,536 bytes, list a block of whole records, replay it, so that chips and
+ * RAM are those before the next, and so on; records then count from the block's first.
+ *
+ *
  * WHAT EACH CALL GIVES BACK: number + 256 * place + 2^24 * compared + 2^40 * differing; for the feed's
  * three calls number + 256 * place
  *
  * Take it apart with pedralume_number, _place, _compared and _differing below; for a feed with
  * pedralume_number and pedralume_feed_place, and not with the other three. A feed's place has 32 bits,
- * and its counts so far are in its record, whatever the number. For frame and repaint compared and
- * differing are 0. The lowest number whose cause holds is given, but 13 comes right after 1; at equal
+ * and its counts so far are in its record, whatever the number. For frame, repaint and changes compared
+ * and differing are 0. The lowest number whose cause holds is given, but 13 comes right after 1; at equal
  * number the left chip comes before the right one, and both before place 3.
  *
  *   no.  call  cause                                               place
  *    0   all   done                                                replay: records replayed;
  *                                                                  frame: 488; repaint: 254;
+ *                                                                  changes: entries;
  *                                                                  open: 0; part and close:
  *                                                                  records since the opening
- *    1   RFPO  chips not 24 bytes                                  0
+ *    1   RFPOL chips not 24 bytes                                  0
  *        R     trace over 65,536 bytes; RAM not 640; answers       0
  *              under 2 bytes for each whole record of the trace
+ *        L     trace over 65,536 bytes; RAM not 640                0
  *        F     RAM not 640; frame not 488                          0
  *        P     picture not 244; output buffer under 1,016          0
  *        OTC   feed record not 48 bytes                            0
@@ -202,25 +225,28 @@
  *              differing above compared; stopped neither 0 nor 1;
  *              byte 30 or 31 not 0; number or place not 0 while
  *              stopped is not 1
- *    3   R     trace length no multiple of 4                       whole records
+ *    3   RL    trace length no multiple of 4                       whole records
  *        C     bytes are kept over                                 records since the opening
- *    4   RT    spare line bits or the fourth byte not 0            record
- *    5   RT    chip over 1                                         record
- *    6   RT    RD and WR equal                                     record
- *    7   RT    a command write with a byte that is no command      record
- *    8   RT    column set (00-7F) while read-modify-write is on    record
+ *    4   RTL   spare line bits or the fourth byte not 0            record
+ *    5   RTL   chip over 1                                         record
+ *    6   RTL   RD and WR equal                                     record
+ *    7   RTL   a command write with a byte that is no command      record
+ *    8   RTL   column set (00-7F) while read-modify-write is on    record
  *    9   P     display off, or static drive on                     chip
  *   10   P     duty 1/32                                           chip
  *   11   P     start line neither 0 nor 16                         chip
  *   12   P     read-modify-write on                                chip
- *   (R replay, F frame, P repaint; of a feed O open, T part, C close. Records count from 0, for a feed
- *   from its opening. T and C of a stopped feed repeat its number and place before all but the 48.)
+ *   15   L     entries buffer under 8 bytes for each entry         entries due
+ *   (R replay, F frame, P repaint, L changes; of a feed O open, T part, C close. Records count from 0,
+ *   for a feed from its opening. T and C of a stopped feed repeat its number and place before all but
+ *   the 48.)
  *
- * 1, 2, 3 and 9 to 13: every buffer is as it came. But open's 2 and close's 3 stop the feed: open
+ * 1, 2, 3, 9 to 13 and 15: every buffer is as it came. But open's 2 and close's 3 stop the feed: open
  * writes the chips as given, stopped, number and place, the rest 0; close changes these three only.
  * 4 to 8 at record i: chips, RAM and answers are those after the records before i, which stand with
  * their answers; compared and differing count reads before i only; the rest of answers is as it came.
- * A feed is then stopped with that number and place, and its kept count and bytes are 0.
+ * A feed is then stopped with that number and place, and its kept count and bytes are 0. But changes
+ * leaves every buffer as it came, whatever the number that refuses it.
  *
  *
  * EXAMPLE
@@ -269,6 +295,31 @@
  *       answer = pedralume_feed_close(feed, sizeof feed);     // 3: the recording ends inside a record
  *   printf("end %u %u %u %u\n", pedralume_number(answer), pedralume_feed_place(answer),
  *          pedralume_feed_compared(feed), pedralume_feed_differing(feed));
+ *
+ * The records that changed what the panel shows, from fresh chips and RAM all 0:
+ *
+ *   static const uint8_t fresh[PEDRALUME_CHIPS_BYTES] = { PEDRALUME_FRESH_CHIP, PEDRALUME_FRESH_CHIP };
+ *   static const uint8_t empty[PEDRALUME_RAM_BYTES] = { 0 };
+ *   static const uint8_t seen[6 * PEDRALUME_RECORD_BYTES] = {
+ *       PEDRALUME_COMMAND_WRITE, 0, 0xAF, 0,    // 0: left display on, over empty RAM: not listed
+ *       PEDRALUME_DATA_WRITE,    0, 0xA5, 0,    // 1: lights 4 pixels of the left half
+ *       PEDRALUME_STATUS_READ,   0, 0x40, 0,    // 2: not listed
+ *       PEDRALUME_DATA_WRITE,    1, 0xFF, 0,    // 3: right display off: not listed
+ *       PEDRALUME_COMMAND_WRITE, 1, 0xAF, 0,    // 4: right display on: 8 pixels light
+ *       PEDRALUME_COMMAND_WRITE, 0, 0xA5, 0     // 5: left static drive on: the other 1,948 light
+ *   };
+ *   uint8_t entries[6 * PEDRALUME_ENTRY_BYTES];
+ *   answer = pedralume_changes(fresh, sizeof fresh, empty, sizeof empty, seen, sizeof seen,
+ *                              entries, sizeof entries);      // number 0, place 3
+ *   for (unsigned i = 0; pedralume_number(answer) == PEDRALUME_DONE && i < pedralume_place(answer); i++) {
+ *       const uint8_t *entry = entries + PEDRALUME_ENTRY_BYTES * i;
+ *       printf("%u %u %u\n", pedralume_entry_record(entry),
+ *              pedralume_entry_left(entry), pedralume_entry_right(entry));
+ *   }
+ *
+ * It prints 1 4 0, then 4 0 8, then 5 1948 0. The entries' bytes, past which the buffer is as it was:
+ *
+ *   01 00 00 00 04 00 00 00   04 00 00 00 00 00 08 00   05 00 00 00 9C 07 00 00
  */
 #ifndef PEDRALUME_H
 #define PEDRALUME_H
@@ -293,6 +344,8 @@ extern "C" {
 #define PEDRALUME_REPAINT_BYTES 1016u
 #define PEDRALUME_FEED_BYTES 48u
 #define PEDRALUME_PART_MAX_BYTES 65536u
+#define PEDRALUME_ENTRY_BYTES 8u
+#define PEDRALUME_ENTRIES_MAX_BYTES 131072u
 
 /* The most records that a feed takes from its opening to its close. */
 #define PEDRALUME_FEED_MAX_RECORDS 4294967295u
@@ -364,7 +417,8 @@ enum {
     PEDRALUME_WRONG_DUTY = 10,
     PEDRALUME_WRONG_START_LINE = 11,
     PEDRALUME_RMW_ON = 12,
-    PEDRALUME_TOO_MANY = 13
+    PEDRALUME_TOO_MANY = 13,
+    PEDRALUME_SHORT_ENTRIES = 15
 };
 
 static inline unsigned pedralume_number(uint64_t answer) { return (unsigned)(answer & 0xFFu); }
@@ -395,6 +449,15 @@ static inline uint32_t pedralume_feed_differing(const uint8_t *feed)
 {
     return pedralume_feed_field(feed, PEDRALUME_FEED_DIFFERING);
 }
+
+/* An entry's record, and the pixels that it changed in the left half and in the right half. */
+static inline uint32_t pedralume_entry_record(const uint8_t *entry)
+{
+    return entry[0] | (uint32_t)entry[1] << 8 | (uint32_t)entry[2] << 16 | (uint32_t)entry[3] << 24;
+}
+
+static inline unsigned pedralume_entry_left(const uint8_t *entry) { return entry[4] | (unsigned)entry[5] << 8; }
+static inline unsigned pedralume_entry_right(const uint8_t *entry) { return entry[6] | (unsigned)entry[7] << 8; }
 
 /*
  * Replays the trace. Rewrites chips and RAM to what they are after the last accepted record, and
@@ -442,6 +505,17 @@ uint64_t pedralume_feed_part(uint8_t *feed, size_t feed_len,
  * record only, so that chips and counts can still be read.
  */
 uint64_t pedralume_feed_close(uint8_t *feed, size_t feed_len);
+
+/*
+ * Lists the records of the trace that changed what the panel shows: writes 8 bytes for each from the
+ * start of entries; bytes past these stay. Chips and RAM are only read. Any refusal, also one at a late
+ * record or for a buffer that is too short (15, with the number of entries as place), leaves entries as
+ * they came.
+ */
+uint64_t pedralume_changes(const uint8_t *chips, size_t chips_len,
+                           const uint8_t *ram, size_t ram_len,
+                           const uint8_t *trace, size_t trace_len,
+                           uint8_t *entries, size_t entries_len);
 
 #ifdef __cplusplus
 }

@@ -1,5 +1,6 @@
-//! Replay, frame, repaint and feed, written plainly from documents 01 and 02 and for speed. It is what
-//! the archive is compared with and timed against, so it shares nothing with it.
+//! Replay, frame, repaint, feed and changes, written plainly from documents 01 and 02 and, but for
+//! changes, for speed. It is what the archive is compared with and timed against, so it shares nothing
+//! with it.
 #![forbid(unsafe_code)]
 
 const CHIP: usize = 12;
@@ -12,7 +13,9 @@ const TRACE_MAX: usize = 65_536;
 const PAGE_RECORDS: usize = 2 + SEGMENTS;
 const REPAINT_RECORDS: usize = 4 * PAGE_RECORDS + 2;
 const FEED: usize = 48;
+const ENTRY: usize = 8;
 
+type Rows = [[u8; WIDTH]; 4];
 type Halves = [[u8; HALF_RAM]; 2];
 
 /// What a call gives back, before it is packed into 64 bits.
@@ -245,7 +248,7 @@ fn try_replay(chips: &mut [u8], ram: &mut [u8], trace: &[u8], answers: &mut [u8]
 }
 
 /// Shows one chip's RAM in its half of the frame, whose columns begin at `left`.
-fn show(chip: &Chip, ram: &[u8; HALF_RAM], rows: &mut [[u8; WIDTH]; 4], left: usize) {
+fn show(chip: &Chip, ram: &[u8; HALF_RAM], rows: &mut Rows, left: usize) {
     let (keep, lit) = match (chip.display, chip.all_lit, chip.duty_32) {
         (false, _, _) => (0, 0),
         (true, true, _) => (0, !0),
@@ -263,14 +266,16 @@ fn show(chip: &Chip, ram: &[u8; HALF_RAM], rows: &mut [[u8; WIDTH]; 4], left: us
     }
 }
 
+fn show_both(state: &[Chip; 2], ram: &Halves, rows: &mut Rows) {
+    show(&state[0], &ram[0], rows, 0);
+    show(&state[1], &ram[1], rows, SEGMENTS);
+}
+
 fn try_frame(chips: &[u8], ram: &[u8], frame: &mut [u8]) -> Result<Outcome, Outcome> {
     let (Some(chips), Some(ram), Some(rows)) = (table(chips), table(ram), table_mut(frame)) else {
         return Err(Outcome::new(1, 0));
     };
-    let [left, right] = decode_chips(chips)?;
-    let [left_ram, right_ram] = ram;
-    show(&left, left_ram, rows, 0);
-    show(&right, right_ram, rows, SEGMENTS);
+    show_both(&decode_chips(chips)?, ram, rows);
     Ok(Outcome::new(0, FRAME))
 }
 
@@ -492,6 +497,62 @@ fn try_close(feed: &mut [u8]) -> Result<Outcome, Outcome> {
     Ok(Outcome::new(number, feed.records as usize))
 }
 
+/// How many pixels differ in the half of the frame whose columns begin at `left`.
+fn changed(before: &Rows, after: &Rows, left: usize) -> u16 {
+    let mut pixels = 0;
+    for (old, new) in before.iter().zip(after) {
+        for x in left..left + SEGMENTS {
+            pixels += (old[x] ^ new[x]).count_ones();
+        }
+    }
+    pixels as u16
+}
+
+fn entry(record: usize, left: u16, right: u16) -> [u8; ENTRY] {
+    let mut bytes = [0; ENTRY];
+    bytes[..4].copy_from_slice(&(record as u32).to_le_bytes());
+    bytes[4..6].copy_from_slice(&left.to_le_bytes());
+    bytes[6..].copy_from_slice(&right.to_le_bytes());
+    bytes
+}
+
+/// The entries of all records, or the refusal of the first that is not taken. Every frame is drawn whole.
+fn list_changes(state: &mut [Chip; 2], ram: &mut Halves, trace: &[[u8; 4]]) -> Result<Vec<[u8; ENTRY]>, Outcome> {
+    let mut listed = Vec::new();
+    let (mut before, mut after) = ([[0; WIDTH]; 4], [[0; WIDTH]; 4]);
+    show_both(state, ram, &mut before);
+    for (place, record) in trace.iter().enumerate() {
+        cycle(state, ram, record).map_err(|number| Outcome::new(number, place))?;
+        show_both(state, ram, &mut after);
+        if after != before {
+            listed.push(entry(place, changed(&before, &after, 0), changed(&before, &after, SEGMENTS)));
+        }
+        before = after;
+    }
+    Ok(listed)
+}
+
+/// Chips and RAM are copied, and the entries kept until all is known: a refusal changes nothing.
+fn try_changes(chips: &[u8], ram: &[u8], trace: &[u8], entries: &mut [u8]) -> Result<Outcome, Outcome> {
+    let (records, rest) = trace.as_chunks();
+    let (Some(chips), Some(ram)) = (table(chips), table(ram)) else {
+        return Err(Outcome::new(1, 0));
+    };
+    if trace.len() > TRACE_MAX {
+        return Err(Outcome::new(1, 0));
+    }
+    let mut state = decode_chips(chips)?;
+    if !rest.is_empty() {
+        return Err(Outcome::new(3, records.len()));
+    }
+    let listed = list_changes(&mut state, &mut ram.clone(), records)?;
+    let Some(slots) = entries.as_chunks_mut().0.get_mut(..listed.len()) else {
+        return Err(Outcome::new(15, listed.len()));
+    };
+    slots.copy_from_slice(&listed);
+    Ok(Outcome::new(0, listed.len()))
+}
+
 fn pack(outcome: Result<Outcome, Outcome>) -> u64 {
     let (Ok(outcome) | Err(outcome)) = outcome;
     outcome.pack()
@@ -519,4 +580,8 @@ pub fn feed_part(feed: &mut [u8], ram: &mut [u8], part: &[u8], answers: &mut [u8
 
 pub fn feed_close(feed: &mut [u8]) -> u64 {
     pack(try_close(feed))
+}
+
+pub fn changes(chips: &[u8], ram: &[u8], trace: &[u8], entries: &mut [u8]) -> u64 {
+    pack(try_changes(chips, ram, trace, entries))
 }

@@ -110,3 +110,27 @@ pub unsafe extern "C" fn feed_part(
 pub unsafe extern "C" fn feed_close(feed: *mut u8, feed_len: usize) -> u64 {
     unsafe { plain::feed_close(from_raw_parts_mut(feed, feed_len)) }
 }
+
+/// # Safety
+/// As for `replay`.
+#[cfg_attr(as_pedralume, unsafe(export_name = "pedralume_changes"))]
+#[cfg_attr(not(as_pedralume), unsafe(export_name = "plain_changes"))]
+pub unsafe extern "C" fn changes(
+    chips: *const u8,
+    chips_len: usize,
+    ram: *const u8,
+    ram_len: usize,
+    trace: *const u8,
+    trace_len: usize,
+    entries: *mut u8,
+    entries_len: usize,
+) -> u64 {
+    unsafe {
+        plain::changes(
+            from_raw_parts(chips, chips_len),
+            from_raw_parts(ram, ram_len),
+            from_raw_parts(trace, trace_len),
+            from_raw_parts_mut(entries, entries_len),
+        )
+    }
+}

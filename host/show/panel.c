@@ -1,4 +1,4 @@
-/* What all ways to show share: messages, and the frame as text. */
+/* What the ways to show share: messages, records to the panel, and its frame as text and as PBM. */
 #include "show.h"
 
 #include <errno.h>
@@ -29,6 +29,7 @@ const char *meaning(unsigned number)
         [PEDRALUME_WRONG_START_LINE] = "a start line neither 0 nor 16",
         [PEDRALUME_RMW_ON] = "read-modify-write on",
         [PEDRALUME_TOO_MANY] = "over 4,294,967,295 records",
+        [PEDRALUME_SHORT_ENTRIES] = "more entries than there is room for",
     };
     bool known = number < sizeof words / sizeof words[0] && words[number] != NULL;
     return known ? words[number] : "which this program does not know";
@@ -46,7 +47,16 @@ bool trace_refused(const char *name, unsigned number, uint32_t place)
     return false;
 }
 
-/* ---- the frame as text ---- */
+/* ---- the panel ---- */
+
+bool send_records(struct panel *panel, const char *name, const uint8_t *records, size_t length)
+{
+    static uint8_t answers[RECORDS_KEPT * PEDRALUME_ANSWER_BYTES];
+    uint64_t answer = pedralume_replay(panel->chips, sizeof panel->chips, panel->ram, sizeof panel->ram,
+                                       records, length, answers, sizeof answers);
+    return pedralume_number(answer) == PEDRALUME_DONE
+        || trace_refused(name, pedralume_number(answer), pedralume_place(answer));
+}
 
 bool take_frame(const uint8_t *chips, const uint8_t *ram, uint8_t *frame)
 {
@@ -61,6 +71,8 @@ bool lit(const uint8_t *frame, unsigned x, unsigned y)
 {
     return (frame[x + WIDTH * (y / 8)] >> (y % 8) & 1) != 0;
 }
+
+/* ---- the frame as text ---- */
 
 static void print_edge(const char *left, const char *right)
 {
@@ -94,4 +106,47 @@ bool print_frame(const uint8_t *frame)
         print_row_pair(frame, y);
     print_edge("└", "┘");
     return all_printed();
+}
+
+/* ---- the frame as PBM ---- */
+
+FILE *open_pbm(const char *path)
+{
+    errno = 0;
+    FILE *file = fopen(path, "wb");
+    if (file == NULL)
+        file_failed(path, "cannot be written");
+    return file;
+}
+
+/* The leftmost pixel is the highest bit; the bits past the last pixel are 0. */
+static bool write_pbm_row(FILE *file, const uint8_t *frame, unsigned y)
+{
+    uint8_t row[(WIDTH + 7) / 8] = { 0 };
+    for (unsigned x = 0; x < WIDTH; x++)
+        if (lit(frame, x, y))
+            row[x / 8] = (uint8_t)(row[x / 8] | 0x80u >> x % 8);
+    return fwrite(row, 1, sizeof row, file) == sizeof row;
+}
+
+bool add_picture(FILE *file, const char *path, const char *comment, const uint8_t *frame)
+{
+    errno = 0;
+    bool good = fprintf(file, "P4\n%s%d %d\n", comment, WIDTH, HEIGHT) > 0;
+    for (unsigned y = 0; good && y < HEIGHT; y++)
+        good = write_pbm_row(file, frame, y);
+    return good || file_failed(path, "cannot be written");
+}
+
+bool close_pbm(FILE *file, const char *path, bool all_written)
+{
+    errno = 0;
+    bool closed = fclose(file) == 0;
+    return all_written && (closed || file_failed(path, "cannot be written"));
+}
+
+bool write_frame(const char *path, const uint8_t *frame)
+{
+    FILE *file = open_pbm(path);
+    return file != NULL && close_pbm(file, path, add_picture(file, path, "", frame));
 }

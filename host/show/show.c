@@ -1,9 +1,10 @@
 /*
  * show: what the panel shows after a trace, or within a repaint that follows it, as text and as a
- * PBM file; or, in live.c, while the records come.
+ * PBM file; or, in changes.c, when that changed; or, in live.c, while the records come.
  *
- * Here, records from either source are a batch. A batch is cut by --at, then sent to the panel; the
- * frame is taken once, after the last batch. Nothing is shown or written unless all of that is done.
+ * Here, records from either source are a batch. With --repaint, the trace's batch is sent whole. The
+ * last batch is cut by --at, then sent to the panel, whose frame is taken after it; or its changes are
+ * listed. Nothing is shown or written unless all of that is done.
  */
 #include "show.h"
 
@@ -14,16 +15,13 @@
 
 enum {
     PICTURE_HEIGHT = 16,
-    PBM_ROW = (WIDTH + 7) / 8,
-    /* One record more than replay takes, so that replay itself refuses a longer file. */
-    RECORDS_KEPT = PEDRALUME_TRACE_MAX_BYTES / PEDRALUME_RECORD_BYTES + 1,
     /* More than a picture takes, with room for comments. */
     PBM_KEPT = 65536,
     STATUS_ARGUMENTS = 2
 };
 
 static const char usage[] =
-    "Usage: show TRACE [--repaint PICTURE] [--at N] [--pbm FILE]\n"
+    "Usage: show TRACE [--repaint PICTURE] [--at N] [--changes] [--pbm FILE]\n"
     "       show --live\n"
     "\n"
     "Sends the bus records of the file TRACE to two fresh chips with RAM all 0, and shows the\n"
@@ -33,7 +31,12 @@ static const char usage[] =
     "                     PICTURE, a PBM (P1 or P4) of 122 by 16, 1 = lit\n"
     "  --at N             send only the first N records of the trace; with --repaint, only the\n"
     "                     first N records of the repaint; N may be 0\n"
-    "  --pbm FILE         also write the panel to FILE, a binary PBM (P4) of 122 by 32, 1 = lit\n"
+    "  --changes          instead of the panel, list each record that changed what it shows, with the\n"
+    "                     pixels changed in the left and in the right half; with --repaint, only\n"
+    "                     records of the repaint; the first record is record 0\n"
+    "  --pbm FILE         also write the panel to FILE, a binary PBM (P4) of 122 by 32, 1 = lit; with\n"
+    "                     --changes, such a picture after each listed record, one after the other, a\n"
+    "                     comment naming the record; where none is listed, one of the panel as it is\n"
     "  --live             instead of a file, take records from standard input as they come, cut\n"
     "                     anywhere: shows the panel at first and again after each record that\n"
     "                     changed it, on a terminal in place of the last; ends with the input or at\n"
@@ -51,20 +54,9 @@ struct options {
     const char *trace;
     const char *repaint;
     const char *at;
+    const char *changes;
     const char *pbm;
     const char *live;
-};
-
-struct panel {
-    uint8_t chips[PEDRALUME_CHIPS_BYTES];
-    uint8_t ram[PEDRALUME_RAM_BYTES];
-};
-
-/* The name is for messages. The length may end inside a record: replay refuses that by number. */
-struct batch {
-    const char *name;
-    size_t length;
-    uint8_t bytes[RECORDS_KEPT * RECORD];
 };
 
 /* A PBM file in memory, and the next byte to be read. */
@@ -110,18 +102,26 @@ static bool asks_for_help(int argc, char **argv)
     return false;
 }
 
-/* Where an option's value goes, or --live itself; NULL for an unknown option. What is no option is the trace. */
+/* Where an option's value goes, or the option itself where it takes none; NULL for an unknown one.
+ * What is no option is the trace. */
 static const char **slot_of(struct options *options, const char *argument)
 {
     if (strcmp(argument, "--repaint") == 0)
         return &options->repaint;
     if (strcmp(argument, "--at") == 0)
         return &options->at;
+    if (strcmp(argument, "--changes") == 0)
+        return &options->changes;
     if (strcmp(argument, "--pbm") == 0)
         return &options->pbm;
     if (strcmp(argument, "--live") == 0)
         return &options->live;
     return argument[0] == '-' ? NULL : &options->trace;
+}
+
+static bool takes_value(const struct options *options, const char **slot)
+{
+    return slot == &options->repaint || slot == &options->at || slot == &options->pbm;
 }
 
 static bool is_count(const char *text)
@@ -138,6 +138,8 @@ static bool check_live(const struct options *options)
         return wrong_argument("--live goes without", "--repaint");
     if (options->at != NULL)
         return wrong_argument("--live goes without", "--at");
+    if (options->changes != NULL)
+        return wrong_argument("--live goes without", "--changes");
     return options->pbm == NULL || wrong_argument("--live goes without", "--pbm");
 }
 
@@ -162,7 +164,7 @@ static bool read_options(int argc, char **argv, struct options *options)
             return wrong_argument("unknown option", argument);
         if (*slot != NULL)
             return wrong_argument(slot == &options->trace ? "more than one trace:" : "more than one", argument);
-        if (slot != &options->trace && slot != &options->live) {
+        if (takes_value(options, slot)) {
             i++;
             /* A forgotten value must not swallow the next option; a file may still be ./--name. */
             if (i == argc || strncmp(argv[i], "--", 2) == 0)
@@ -173,7 +175,7 @@ static bool read_options(int argc, char **argv, struct options *options)
     return check_options(options);
 }
 
-/* ---- records to the panel ---- */
+/* ---- a batch from a file ---- */
 
 /* Reads no more than there is room for, so an endless file ends too. */
 static bool read_file(const char *path, uint8_t *bytes, size_t room, size_t *length)
@@ -209,23 +211,11 @@ static bool keep_first(struct batch *batch, const char *at)
     return true;
 }
 
-static bool send_batch(struct panel *panel, const struct batch *batch)
-{
-    static uint8_t answers[RECORDS_KEPT * PEDRALUME_ANSWER_BYTES];
-    uint64_t answer = pedralume_replay(panel->chips, sizeof panel->chips, panel->ram, sizeof panel->ram,
-                                       batch->bytes, batch->length, answers, sizeof answers);
-    return pedralume_number(answer) == PEDRALUME_DONE
-        || trace_refused(batch->name, pedralume_number(answer), pedralume_place(answer));
-}
-
 /* With --repaint, --at is for the repaint. */
-static bool send_trace(struct panel *panel, const struct options *options)
+static bool read_trace(const struct options *options, struct batch *batch)
 {
-    static struct batch batch;
     bool whole = options->at == NULL || options->repaint != NULL;
-    return read_batch(options->trace, &batch)
-        && (whole || keep_first(&batch, options->at))
-        && send_batch(panel, &batch);
+    return read_batch(options->trace, batch) && (whole || keep_first(batch, options->at));
 }
 
 /* ---- a picture from a PBM file ---- */
@@ -379,54 +369,41 @@ static bool make_repaint(const struct panel *panel, const struct options *option
         return false;
     uint64_t answer = pedralume_repaint(panel->chips, sizeof panel->chips, picture, sizeof picture,
                                         batch->bytes, sizeof batch->bytes);
+    if (pedralume_number(answer) != PEDRALUME_DONE)
+        return repaint_refused(options->trace, answer);
     batch->name = "the repaint";
     batch->length = PEDRALUME_REPAINT_BYTES;
-    return pedralume_number(answer) == PEDRALUME_DONE || repaint_refused(options->trace, answer);
+    return options->at == NULL || keep_first(batch, options->at);
 }
 
-static bool send_repaint(struct panel *panel, const struct options *options)
+/* Sends the trace, and puts the repaint that follows it in its place. */
+static bool go_on_to_repaint(struct panel *panel, const struct options *options, struct batch *batch)
 {
-    static struct batch batch;
-    return make_repaint(panel, options, &batch)
-        && (options->at == NULL || keep_first(&batch, options->at))
-        && send_batch(panel, &batch);
+    return send_records(panel, batch->name, batch->bytes, batch->length)
+        && make_repaint(panel, options, batch);
 }
 
-/* ---- the frame as PBM ---- */
+/* ---- what is shown ---- */
 
-/* The leftmost pixel is the highest bit; the bits past the last pixel are 0. */
-static bool write_pbm_row(FILE *file, const uint8_t *frame, unsigned y)
+static bool show_panel(struct panel *panel, const struct batch *batch, const char *pbm)
 {
-    uint8_t row[PBM_ROW] = { 0 };
-    for (unsigned x = 0; x < WIDTH; x++)
-        if (lit(frame, x, y))
-            row[x / 8] = (uint8_t)(row[x / 8] | 0x80u >> x % 8);
-    return fwrite(row, 1, sizeof row, file) == sizeof row;
+    uint8_t frame[PEDRALUME_FRAME_BYTES];
+    return send_records(panel, batch->name, batch->bytes, batch->length)
+        && take_frame(panel->chips, panel->ram, frame)
+        && (pbm == NULL || write_frame(pbm, frame))
+        && print_frame(frame);
 }
 
-static bool write_pbm(const char *path, const uint8_t *frame)
-{
-    errno = 0;
-    FILE *file = fopen(path, "wb");
-    if (file == NULL)
-        return file_failed(path, "cannot be written");
-    bool good = fprintf(file, "P4\n%d %d\n", WIDTH, HEIGHT) > 0;
-    for (unsigned y = 0; good && y < HEIGHT; y++)
-        good = write_pbm_row(file, frame, y);
-    bool closed = fclose(file) == 0;
-    return (good && closed) || file_failed(path, "cannot be written");
-}
-
-/* The panel after the trace, or within the repaint that follows it. */
+/* The last batch is the trace or, with --repaint, the repaint. */
 static bool show_trace(const struct options *options)
 {
+    static struct batch batch;
     struct panel panel = { .chips = { PEDRALUME_FRESH_CHIP, PEDRALUME_FRESH_CHIP } };
-    uint8_t frame[PEDRALUME_FRAME_BYTES];
-    return send_trace(&panel, options)
-        && (options->repaint == NULL || send_repaint(&panel, options))
-        && take_frame(panel.chips, panel.ram, frame)
-        && (options->pbm == NULL || write_pbm(options->pbm, frame))
-        && print_frame(frame);
+    if (!read_trace(options, &batch)
+        || (options->repaint != NULL && !go_on_to_repaint(&panel, options, &batch)))
+        return false;
+    return options->changes != NULL ? show_changes(&panel, &batch, options->pbm)
+                                    : show_panel(&panel, &batch, options->pbm);
 }
 
 int main(int argc, char **argv)

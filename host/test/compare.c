@@ -10,12 +10,15 @@
 #define PROGRAM "compare"
 #include "contest.h"
 
-enum { NUMBERS = 13 };
+enum { NUMBERS = 16 };
 
 /* ---- one call on both sides ---- */
 
-/* What one call is lent. Replay: chips, RAM, trace, answers. Frame and repaint: chips, source, output. */
-enum { PARTS = 4, PART_TRACE = 2, PART_ANSWERS = 3, PART_OUTPUT = 2 };
+/*
+ * What one call is lent. Replay: chips, RAM, trace, answers. Frame and repaint: chips, source, output.
+ * Changes: chips, RAM, trace, entries.
+ */
+enum { PARTS = 4, PART_TRACE = 2, PART_ANSWERS = 3, PART_OUTPUT = 2, PART_ENTRIES = 3 };
 
 struct bundle {
     struct lent part[PARTS];
@@ -41,6 +44,7 @@ struct contest {
     bool constant[PARTS];
     replay_call *replay[2];                 /* archive, plain; either these two */
     paint_call *paint[2];                   /* or these */
+    changes_call *changes[2];               /* or these */
     const char *part_name[PARTS];
 };
 
@@ -49,6 +53,8 @@ static uint64_t call(const struct contest *c, int side, struct bundle *b)
     struct lent *p = b->part;
     if (c->replay[side] != NULL)
         return c->replay[side](p[0].bytes, p[0].len, p[1].bytes, p[1].len, p[2].bytes, p[2].len, p[3].bytes, p[3].len);
+    if (c->changes[side] != NULL)
+        return c->changes[side](p[0].bytes, p[0].len, p[1].bytes, p[1].len, p[2].bytes, p[2].len, p[3].bytes, p[3].len);
     return c->paint[side](p[0].bytes, p[0].len, p[1].bytes, p[1].len, p[2].bytes, p[2].len);
 }
 
@@ -81,11 +87,17 @@ static void fail_part(const struct contest *c, unsigned long at, size_t part, co
     fail(c->name, at, text);
 }
 
-/* Numbers 1 to 3 and 9 to 12 leave everything as it came. */
+/* Numbers 1 to 3, 9 to 12 and 15 leave everything as it came. */
 static bool leaves_all(uint64_t answer)
 {
     unsigned number = pedralume_number(answer);
     return (number >= 1 && number <= 3) || number >= 9;
+}
+
+/* Of changes all that refuse do. */
+static bool all_stays(const struct contest *c, uint64_t answer)
+{
+    return leaves_all(answer) || (c->changes[0] != NULL && pedralume_number(answer) != PEDRALUME_DONE);
 }
 
 static void check_parts(const struct contest *c, unsigned long at, const struct bundle *given,
@@ -103,14 +115,15 @@ static void check_parts(const struct contest *c, unsigned long at, const struct 
     }
 }
 
-/* Bytes past the answers given, or past the 254 records, stay. */
+/* Bytes past the answers given, past the 254 records or past the entries stay. */
 static void check_tail(const struct contest *c, unsigned long at, const struct bundle *given,
                        const struct bundle *archive, uint64_t answer)
 {
-    size_t part = c->replay[0] != NULL ? PART_ANSWERS : PART_OUTPUT;
-    size_t used = pedralume_place(answer) * (size_t)(c->replay[0] != NULL ? 2 : 4);
+    size_t part = c->replay[0] != NULL ? PART_ANSWERS : c->changes[0] != NULL ? PART_ENTRIES : PART_OUTPUT;
+    size_t each = c->replay[0] != NULL ? 2 : c->changes[0] != NULL ? ENTRY : RECORD;
+    size_t used = pedralume_place(answer) * each;
     const struct lent *a = &archive->part[part], *g = &given->part[part];
-    if (leaves_all(answer) || used >= a->len)
+    if (all_stays(c, answer) || used >= a->len)
         return;
     if (memcmp(a->bytes + used, g->bytes + used, a->len - used) != 0)
         fail_part(c, at, part, "changed past the last that is due");
@@ -130,7 +143,7 @@ static uint64_t contend(const struct contest *c, unsigned long at, const struct 
         print_answer("plain", want);
         printf("\n");
     }
-    check_parts(c, at, given, &archive, &plain, leaves_all(want));
+    check_parts(c, at, given, &archive, &plain, all_stays(c, want));
     check_tail(c, at, given, &archive, want);
     count(t, want);
     free_bundle(&archive, c->parts);
@@ -192,7 +205,7 @@ static void draw_replay(struct rng *g, struct bundle *b)
 static void compare_replays(uint64_t seed, unsigned long cases)
 {
     static const struct contest contest = {
-        "replay", 4, { false, false, true, false }, { pedralume_replay, plain_replay }, { NULL, NULL },
+        "replay", 4, { false, false, true, false }, { pedralume_replay, plain_replay }, { NULL, NULL }, { NULL, NULL },
         { "chips", "RAM", "trace", "answers" }
     };
     static const bool due[NUMBERS] = { 1, 1, 1, 1, 1, 1, 1, 1, 1, 0, 0, 0, 0 };
@@ -322,7 +335,7 @@ static void check_settings(bool tried[2][SETTINGS])
 static void compare_frames(uint64_t seed, unsigned long cases)
 {
     static const struct contest contest = {
-        "frame", 3, { true, true, false }, { NULL, NULL }, { pedralume_frame, plain_frame },
+        "frame", 3, { true, true, false }, { NULL, NULL }, { pedralume_frame, plain_frame }, { NULL, NULL },
         { "chips", "RAM", "frame", "" }
     };
     static const bool due[NUMBERS] = { 1, 1, 1 };
@@ -389,7 +402,7 @@ static void draw_repaint(struct rng *g, struct bundle *b)
 static void compare_repaints(uint64_t seed, unsigned long cases)
 {
     static const struct contest contest = {
-        "repaint", 3, { true, true, false }, { NULL, NULL }, { pedralume_repaint, plain_repaint },
+        "repaint", 3, { true, true, false }, { NULL, NULL }, { pedralume_repaint, plain_repaint }, { NULL, NULL },
         { "chips", "picture", "output", "" }
     };
     static const bool due[NUMBERS] = { 1, 1, 1, 0, 0, 0, 0, 0, 0, 1, 1, 1, 1 };
@@ -406,6 +419,182 @@ static void compare_repaints(uint64_t seed, unsigned long cases)
 
 #endif
 
+#ifdef WITH_CHANGES
+
+/* ---- random changes ---- */
+
+/* Any, or such that turns of it show little: all dark or all lit, pages alike, columns alike from the middle. */
+static void draw_shown_ram(struct rng *g, uint8_t *ram)
+{
+    unsigned way = below(g, 6);
+    random_bytes(g, ram, RAM);
+    if (way == 0)
+        memset(ram, one_in(g, 2) ? 0 : 0xFF, RAM);
+    for (unsigned i = 0; i < RAM; i++) {
+        unsigned row = i / 80 * 80, column = i % 80;
+        if (way == 1)
+            ram[i] = ram[i / HALF_RAM * HALF_RAM + column];
+        else if (way == 2 && column >= 40)
+            ram[i] = ram[row + 79 - column];
+    }
+}
+
+/* Both chips show RAM half of the time. */
+static void draw_showing_chips(struct rng *g, uint8_t *chips)
+{
+    draw_chips(g, chips);
+    if (one_in(g, 2))
+        return;
+    for (unsigned chip = 0; chip < 2; chip++) {
+        chips[CHIP * chip + PEDRALUME_DISPLAY] = 1;
+        chips[CHIP * chip + PEDRALUME_STATIC] = 0;
+    }
+}
+
+/* RAM is all one byte and mostly written with that, so that few records are seen. */
+static void put_quiet(struct trace *t, struct rng *g, const uint8_t *chips, uint8_t *ram, size_t records)
+{
+    uint8_t fill = random_byte(g);
+    memset(ram, fill, RAM);
+    put_shown(t, g, chips, records);
+    for (uint8_t *record = t->bytes; record < t->bytes + t->len; record += RECORD)
+        if (record[0] == PEDRALUME_DATA_WRITE && !one_in(g, 30))
+            record[2] = fill;
+}
+
+/* Repaints one after the other, some with the picture that is shown: at most two records of each are seen. */
+static void put_repaints(struct trace *t, struct rng *g, uint8_t *chips, size_t count)
+{
+    uint8_t picture[PICTURE], then[CHIPS];
+    random_bytes(g, picture, PICTURE);
+    draw_ready_chip(g, chips);
+    draw_ready_chip(g, chips + CHIP);
+    memcpy(then, chips, CHIPS);
+    for (; count > 0 && t->len + REPAINT <= TRACE_MAX; count--) {
+        if (!one_in(g, 3))
+            random_bytes(g, picture, PICTURE);
+        plain_repaint(then, CHIPS, picture, PICTURE, t->bytes + t->len, REPAINT);
+        t->len += REPAINT;
+        then[PEDRALUME_START_LINE] ^= 16;
+        then[CHIP + PEDRALUME_START_LINE] ^= 16;
+    }
+}
+
+static void draw_seen(struct trace *t, struct rng *g, uint8_t *chips, uint8_t *ram)
+{
+    unsigned way = below(g, 6);
+    t->len = 0;
+    draw_showing_chips(g, chips);
+    draw_shown_ram(g, ram);
+    if (way < 2) {
+        draw_trace(t, g, chips, ram, draw_record_count(g));
+        return;
+    }
+    if (way < 4)
+        put_shown(t, g, chips, draw_record_count(g));
+    else if (way == 4)
+        put_quiet(t, g, chips, ram, draw_record_count(g));
+    else
+        put_repaints(t, g, chips, one_in(g, 40) ? 64 : between(g, 1, 4));
+    if (t->len > 0 && one_in(g, 6))
+        damage_trace(t, g);
+}
+
+/* How the room stands to what the entries need. */
+enum { EXACT, LONGER, BYTE_SHORT, ENTRY_SHORT, NONE, SHORTER, ROOMS };
+
+static size_t draw_room(struct rng *g, size_t exact)
+{
+    static const uint8_t kind[] = { EXACT, EXACT, EXACT, LONGER, LONGER, LONGER, LONGER, BYTE_SHORT, ENTRY_SHORT, NONE, SHORTER };
+    switch (kind[below(g, sizeof kind)]) {
+    case LONGER:
+        return exact + (one_in(g, 2) ? between(g, 1, 9) : between(g, 10, 300));
+    case BYTE_SHORT:
+        return exact > 0 ? exact - 1 : 0;
+    case ENTRY_SHORT:
+        return exact > 0 ? exact - ENTRY : 0;
+    case NONE:
+        return 0;
+    case SHORTER:
+        return below(g, (unsigned)exact + 1);
+    default:
+        return exact;
+    }
+}
+
+static unsigned room_kind(size_t room, size_t exact)
+{
+    if (room >= exact)
+        return room == exact ? EXACT : LONGER;
+    if (room == 0)
+        return NONE;
+    return exact - room == 1 ? BYTE_SHORT : exact - room == ENTRY ? ENTRY_SHORT : SHORTER;
+}
+
+/* Lends room as the entries need it, or any where the call is refused before that. */
+static void draw_changes(struct rng *g, struct bundle *b)
+{
+    static struct trace t;
+    static uint8_t entries[ENTRIES_MAX + 300];
+    uint8_t chips[CHIPS], ram[RAM], no_room[1];
+    draw_seen(&t, g, chips, ram);
+    uint64_t need = plain_changes(chips, CHIPS, ram, RAM, t.bytes, t.len, no_room, 0);
+    size_t exact = pedralume_number(need) == PEDRALUME_SHORT_ENTRIES ? ENTRY * pedralume_place(need) : 0;
+    size_t room = draw_room(g, exact > 0 ? exact : ENTRY * below(g, 20));
+    random_bytes(g, entries, room);
+    if (one_in(g, 12))
+        spoil_chips(g, chips);
+    b->part[0] = lend_padded(g, chips, CHIPS, one_in(g, 50) ? wrong_length(g, CHIPS, 64) : CHIPS);
+    b->part[1] = lend_padded(g, ram, RAM, one_in(g, 50) ? wrong_length(g, RAM, 1300) : RAM);
+    b->part[PART_TRACE] = lend(t.bytes, t.len, 0);
+    b->part[PART_ENTRIES] = lend(entries, room, 0);
+}
+
+/* What was tried where there was something to list. */
+struct listing {
+    unsigned long records, listed, rooms[ROOMS];
+};
+
+static void note_changes(struct listing *l, const struct bundle *given, uint64_t answer)
+{
+    unsigned number = pedralume_number(answer);
+    size_t listed = pedralume_place(answer);
+    if (number != PEDRALUME_DONE && number != PEDRALUME_SHORT_ENTRIES)
+        return;
+    l->records += given->part[PART_TRACE].len / RECORD;
+    l->listed += listed;
+    if (listed > 1)
+        l->rooms[room_kind(given->part[PART_ENTRIES].len, ENTRY * listed)]++;
+}
+
+static void compare_changes(uint64_t seed, unsigned long cases)
+{
+    static const struct contest contest = {
+        "changes", 4, { true, true, true, false }, { NULL, NULL }, { NULL, NULL }, { pedralume_changes, plain_changes },
+        { "chips", "RAM", "trace", "entries" }
+    };
+    static const bool due[NUMBERS] = { 1, 1, 1, 1, 1, 1, 1, 1, 1, 0, 0, 0, 0, 0, 0, 1 };
+    struct tally tally = { 0 };
+    struct listing listing = { 0 };
+    for (unsigned long at = 0; at < cases; at++) {
+        struct rng g = rng_for(seed, 9, at);
+        struct bundle given;
+        draw_changes(&g, &given);
+        note_changes(&listing, &given, contend(&contest, at, &given, &tally));
+        free_bundle(&given, contest.parts);
+    }
+    report(&contest, &tally, due);
+    printf("compare: changes: %lu of %lu records listed; room exact %lu, longer %lu, a byte short %lu, an entry short %lu,"
+           " none %lu, shorter %lu\n",
+           listing.listed, listing.records, listing.rooms[EXACT], listing.rooms[LONGER], listing.rooms[BYTE_SHORT],
+           listing.rooms[ENTRY_SHORT], listing.rooms[NONE], listing.rooms[SHORTER]);
+    for (unsigned kind = 0; kind < ROOMS; kind++)
+        if (listing.rooms[kind] == 0)
+            fail("changes, kind of room", kind, "never tried, draw more cases");
+}
+
+#endif
+
 int main(int argc, char **argv)
 {
     uint64_t seed = argc > 1 ? strtoull(argv[1], NULL, 0) : 1520;
@@ -418,6 +607,9 @@ int main(int argc, char **argv)
 #endif
 #ifdef WITH_REPAINT
     compare_repaints(seed, cases);
+#endif
+#ifdef WITH_CHANGES
+    compare_changes(seed, cases);
 #endif
     printf("compare: %u failed\n", failures);
     return failures == 0 ? EXIT_SUCCESS : EXIT_FAILURE;

@@ -71,7 +71,7 @@ refused() { # LABEL STATUS MESSAGE ARGUMENTS...: this message, this status, noth
     check "$name: shows something" [ ! -s "$work/out" ]
 }
 text_of() { # PBM: the text that show must print for it
-    od -An -v -tu1 -j10 "$1" | awk '
+    tail -c 512 "$1" | od -An -v -tu1 | awk '
         function lit(x, y) { return int(byte[16 * y + int(x / 8)] / 2 ^ (7 - x % 8)) % 2 }
         function edge(left, right) { for (x = 0; x < 122; x++) left = left "─"; print left right }
         { for (i = 1; i <= NF; i++) byte[n++] = $i }
@@ -282,6 +282,8 @@ refused_repaint() { # NUMBER CHIP WORDS RECORD...: refused where these records c
     refused "repaint, number $number ($*)" 1 "$message" "$t" --repaint "$picture" --pbm "$pbm"
     check "repaint, number $number: writes a PBM" [ ! -e "$pbm" ]
     refused "repaint, number $number at 0 ($*)" 1 "$message" "$t" --repaint "$picture" --at 0
+    refused "repaint, number $number, changes ($*)" 1 "$message" "$t" --repaint "$picture" --changes --pbm "$pbm"
+    check "repaint, number $number, changes: writes a PBM" [ ! -e "$pbm" ]
     shown "repaint, number $number, without it" "$t"
 }
 refused_repaint 9 left "display off or static drive on" "2 0 AE"
@@ -313,6 +315,8 @@ refused_at_2() { # NUMBER WORDS RECORD [RECORD BEFORE]
     refused "number $1" 1 "$t: record 2 refused: number $1, $2" "$t" --pbm "$pbm"
     check "number $1: writes a PBM" [ ! -e "$pbm" ]
     refused "number $1 at 3" 1 "$t: record 2 refused: number $1, $2" "$t" --at 3
+    refused "number $1, changes" 1 "$t: record 2 refused: number $1, $2" "$t" --changes --pbm "$pbm"
+    check "number $1, changes: writes a PBM" [ ! -e "$pbm" ]
     shown "number $1 at 2" "$t" --at 2
 }
 refused_at_2 4 "spare line bits or the fourth byte not 0" "10 0 AF"
@@ -325,6 +329,7 @@ refused_at_2 8 "a column set while read-modify-write is on" "2 0 05" "2 0 E0"
 records "2 0 AF" "3 0 01" >"$t"
 printf '\003\000' >>"$t"
 refused "cut short" 1 "$t: refused: number 3, a length that is no multiple of 4 (whole records: 2)" "$t"
+refused "cut short, changes" 1 "$t: refused: number 3, a length that is no multiple of 4 (whole records: 2)" "$t" --changes
 refused "cut short at 3" 1 "$t: has only 2 records, --at asks for 3" "$t" --at 3
 shown "cut short at 2" "$t" --at 2; pixels "cut short at 2" "1 $first" "31 $dark"
 
@@ -335,10 +340,12 @@ refused "longest, past its end" 1 "$t: has only 16384 records, --at asks for 163
 for size in 65537 65540 80000; do
     status_reads $size >"$t"
     refused "$size bytes" 1 "$t: $over" "$t"
+    refused "$size bytes, changes" 1 "$t: $over" "$t" --changes
     shown "$size bytes at 16384" "$t" --at 16384
 done
 refused "80000 bytes at 16385" 1 "$t: $over" "$t" --at 16385
 refused "80000 bytes at 17000" 1 "$t: $over" "$t" --at 17000
+refused "80000 bytes at 17000, changes" 1 "$t: $over" "$t" --at 17000 --changes
 refused "endless" 1 "/dev/zero: $over" /dev/zero
 
 # ---- live: the same however the input is cut ----
@@ -470,6 +477,195 @@ if script -qec true /dev/null >/dev/null 2>&1 </dev/null; then
     check "live on a terminal: else as elsewhere" cmp -s "$work/plain" "$work/out"
 fi
 
+# ---- changes: lists written here by hand; counts and pictures as --at shows the panel before and after each record ----
+
+pixels_between() { # PBM PBM: prints how many pixels of each half differ
+    { tail -c 512 "$1"; tail -c 512 "$2"; } | od -An -v -tu1 | awk '
+        function lit(at, x, y) { return int(byte[at + 16 * y + int(x / 8)] / 2 ^ (7 - x % 8)) % 2 }
+        { for (i = 1; i <= NF; i++) byte[n++] = $i }
+        END {
+            for (y = 0; y < 32; y++) for (x = 0; x < 122; x++) half[x > 60] += lit(0, x, y) != lit(512, x, y)
+            print "left " half[0] ", right " half[1]
+        }'
+}
+with_comment() { # COMMENT PBM: prints the picture with it
+    printf 'P4\n# %s\n122 32\n' "$1"
+    tail -c 512 "$2"
+}
+seen() { # FROM TO ARGUMENTS...: prints the records from FROM to before TO that change the panel, with counts; leaves $work/pictures
+    at=$1 to=$2
+    shift 2
+    : >"$work/pictures"
+    "$show" "$@" --at "$at" --pbm "$work/before" >/dev/null
+    while [ "$at" -lt "$to" ]; do
+        "$show" "$@" --at $((at + 1)) --pbm "$work/after" >/dev/null
+        if ! cmp -s "$work/before" "$work/after"; then
+            echo "record $at: $(pixels_between "$work/before" "$work/after")"
+            with_comment "record $at" "$work/after" >>"$work/pictures"
+        fi
+        mv "$work/after" "$work/before"
+        at=$((at + 1))
+    done
+    [ -s "$work/pictures" ] || with_comment "no record changed it" "$work/before" >"$work/pictures"
+}
+listed() { # LABEL FROM TO ARGUMENTS...: the first TO records give the list in $work/wanted, with no record before FROM
+    name="changes, $1" from=$2 first_records=$3
+    shift 3
+    seen "$from" "$first_records" "$@" >"$work/seen"
+    rm -f "$pbm"
+    run "$@" --at "$first_records" --changes --pbm "$pbm"; ended "$name" 0 ""
+    check "$name: counts" same "$(sed '$d; s/: .*pixels:/:/' "$work/out")" "$(cat "$work/seen")"
+    check "$name: pictures" cmp -s "$pbm" "$work/pictures"
+}
+listed_whole() { # LABEL FROM TO ARGUMENTS...: the same, and without --at and --pbm
+    listed "$@"
+    shift 3
+    run --changes "$@"; ended "$name, whole" 0 ""
+}
+wanted() { # CHANGED RECORDS: standard input and the last line are the list that is wanted
+    { cat; echo "$1 of $2 records changed what the panel shows"; } >"$work/wanted"
+}
+
+: >"$t"
+wanted 0 0 </dev/null; listed_whole "empty" 0 0 "$t"
+check "changes, empty: the panel" same "$(tail -c 512 "$pbm" | tr -d '\000' | wc -c)" 0
+
+every_change() { # CHIP: each kind of record that can change the panel, then records that do not change it, but for record 24
+    records "2 $1 AF" "2 $1 BA" "3 $1 0F" "2 $1 A8" "2 $1 A9" "2 $1 A1" "2 $1 A0" "2 $1 AE" "2 $1 AF" "2 $1 A5" "2 $1 A4" \
+        "2 $1 D0" "2 $1 C0" "2 $1 DF" "2 $1 E2" \
+        "2 $1 C0" "2 $1 BA" "2 $1 00" "3 $1 0F" "2 $1 E0" "5 $1 00" "4 $1 40" "2 $1 EE" "2 $1 3C" "3 $1 81" "3 $1 FF" \
+        "2 $1 4F" "3 $1 FF" "3 $1 FF" "2 $1 E2"
+}
+every_line() { # CHIP BEFORE AFTER: the list; the count comes between the last two
+    while read -r record count words; do
+        echo "record $record: $1 chip, $words; changed pixels: $2$count$3"
+    done <<'.'
+2 4 data write 0F
+3 4 duty 1/16
+4 4 duty 1/32
+5 4 ADC reverse
+6 4 ADC forward
+7 4 display off
+8 4 display on
+9 1948 static drive on
+10 1948 static drive off
+11 8 start line 16
+12 8 start line 0
+13 2 start line 31
+14 2 reset
+24 2 data write 81
+.
+}
+every_change 0 >"$t"
+every_line left "left " ", right 0" | wanted 14 30; listed_whole "left chip" 0 30 "$t"
+every_change 1 >"$t"
+every_line right "left 0, right " "" | wanted 14 30; listed_whole "right chip" 0 30 "$t"
+
+changes >"$t"
+first_lines() { # N: of the list of these 13 records
+    head -n "$1" <<'.'
+record 1: left chip, data write 01; changed pixels: left 1, right 0
+record 4: left chip, data write FF; changed pixels: left 8, right 0
+record 9: right chip, static drive on; changed pixels: left 0, right 1952
+record 10: left chip, start line 1; changed pixels: left 4, right 0
+record 11: left chip, ADC reverse; changed pixels: left 17, right 0
+record 12: right chip, static drive off; changed pixels: left 0, right 1952
+.
+}
+first_lines 6 | wanted 6 13; listed_whole "both chips" 0 13 "$t"
+first_lines 0 | wanted 0 0; listed "at 0" 0 0 "$t"
+first_lines 0 | wanted 0 1; listed "at 1" 0 1 "$t"
+first_lines 1 | wanted 1 2; listed "at 2" 0 2 "$t"
+first_lines 3 | wanted 3 10; listed "at 10" 0 10 "$t"
+refused "changes, past the end" 1 "$t: has only 13 records, --at asks for 14" "$t" --changes --at 14
+records "2 0 80" >>"$t"
+first_lines 6 | wanted 6 13; listed "before a refused record" 0 13 "$t"
+refused "changes, at a refused record" 1 "$t: record 13 refused: number 7, a byte that is no command" "$t" --changes --at 14
+
+# The example, held to what --live draws. Its pictures have 535 bytes each, since all listed records have three digits.
+rm -f "$pbm"
+run "$example" --changes --pbm "$pbm"
+check "changes, example: status $status" same "$status" 0
+check "changes, example: first" same "$(head -n 1 "$work/out")" "record 678: left chip, data write FC; changed pixels: left 6, right 0"
+check "changes, example: last two" same "$(tail -n 2 "$work/out")" "record 871: right chip, data write B0; changed pixels: left 0, right 3
+152 of 886 records changed what the panel shows"
+check "changes, example: lines" same "$(wc -l <"$work/out")" 153
+check "changes, example: pictures" same "$(wc -c <"$pbm")" $((152 * 535))
+sed -n 's/^record \([0-9]*\):.*/# record \1/p' "$work/out" >"$work/numbers"
+"$show" "$example" --at 0 >"$work/wanted"
+: >"$work/comments"
+for n in $(seq 0 151); do
+    dd if="$pbm" bs=535 skip="$n" count=1 of="$work/one.pbm" 2>/dev/null
+    sed -n 2p "$work/one.pbm" >>"$work/comments"
+    text_of "$work/one.pbm" >>"$work/wanted"
+done
+check "changes, example: comments" cmp -s "$work/comments" "$work/numbers"
+run --live <"$example"
+sed '$d' "$work/out" >"$work/drawn"
+check "changes, example: as --live draws it" cmp -s "$work/drawn" "$work/wanted"
+
+# From the longest trace that is taken, as many as there can be: from fresh chips the first record changes nothing.
+{ records "2 1 AF"; repeated 8192 abcdabed | tr abcde '\002\001\245\000\244' | head -c 65532; } >"$t"
+rm -f "$pbm"
+run "$t" --changes --pbm "$pbm"
+check "changes, longest: status $status" same "$status" 0
+check "changes, longest: lines" same "$(wc -l <"$work/out")" 16384
+check "changes, longest: last two" same "$(tail -n 2 "$work/out")" "record 16383: right chip, static drive on; changed pixels: left 0, right 1952
+16383 of 16384 records changed what the panel shows"
+check "changes, longest: pictures" same "$(wc -c <"$pbm")" "$(seq 16383 | awk '{ size += 532 + length($1) } END { printf "%d", size }')"
+check "changes, longest: last picture" same "$(tail -c 537 "$pbm" | head -c 25 | tr '\n' /)" "P4/# record 16383/122 32/"
+records "4 1 40" >>"$t"
+refused "changes, one record more" 1 "$t: $over" "$t" --changes
+run "$t" --changes --at 16384
+check "changes, one record more at 16384" same "$status $(wc -l <"$work/out")" "0 16384"
+
+# ---- changes of a repaint: its records count from 0, the trace's are not listed ----
+
+turned() { # LEFT-LINE LEFT-COUNT RIGHT-LINE RIGHT-COUNT: the list of a whole repaint
+    echo "record 252: left chip, start line $1; changed pixels: left $2, right 0"
+    echo "record 253: right chip, start line $3; changed pixels: left 0, right $4"
+}
+line_after() { [ "$1" = C0 ] && echo 16 || echo 0; } # COMMAND: the start line to which a repaint turns
+turned 16 276 16 32 | wanted 2 254; listed_whole "repaint, example" 250 254 "$example" --repaint "$new_name"
+
+{ printf 'P1\n122 16\n'; new_rows digits; } >"$picture"
+for chips in "C0 0 D0 1" "D0 1 C0 0"; do
+    # shellcheck disable=SC2086
+    set -- $chips
+    old_pixels "$@" >"$t"
+    turned "$(line_after "$1")" 371 "$(line_after "$3")" 188 | wanted 2 254
+    listed_whole "repaint, chips $chips" 250 254 "$t" --repaint "$picture"
+done
+wanted 0 0 </dev/null; listed "repaint at 0" 0 0 "$t" --repaint "$picture"
+wanted 0 252 </dev/null; listed "repaint at 252" 250 252 "$t" --repaint "$picture"
+turned 0 371 16 188 | head -n 1 | wanted 1 253; listed "repaint at 253" 250 253 "$t" --repaint "$picture"
+refused "changes, repaint at 255" 1 "the repaint: has only 254 records, --at asks for 255" "$t" --repaint "$picture" --changes --at 255
+{ printf 'P1\n122 16\n'; digits "1 $first" "14 $dark" "1 $last"; } >"$picture"
+wanted 0 254 </dev/null; listed_whole "repaint of what is shown" 250 254 "$t" --repaint "$picture"
+
+# ---- changes: files and arguments ----
+
+changes >"$t"
+refused "changes, PBM in no folder" 1 "$work/none/x: cannot be written: No such file or directory" "$t" --changes --pbm "$work/none/x"
+refused "changes, PBM is a folder" 1 "$work: cannot be written: Is a directory" "$t" --changes --pbm "$work"
+for trace in "$t" "$example"; do # a few pictures fail at the end, many before it
+    refused "changes, PBM on a full disk" 1 "/dev/full: cannot be written: No space left on device" "$trace" --changes --pbm /dev/full
+done
+refused "changes, missing file" 1 "$work/none: cannot be opened: No such file or directory" "$work/none" --changes
+"$show" "$t" --changes >/dev/full 2>"$work/err"
+check "changes on a full disk: status" same $? 1
+check "changes on a full disk: message" same "$(cat "$work/err")" "standard output: cannot be written: No space left on device"
+
+refused "live, changes" 2 'show: --live goes without "--changes"; see show --help' --live --changes
+refused "changes, live" 2 'show: --live goes without "--changes"; see show --help' --changes --live
+refused "changes, no trace" 2 'show: no file for "TRACE"; see show --help' --changes
+refused "changes twice" 2 'show: more than one "--changes"; see show --help' "$t" --changes --changes
+refused "changes with a value" 2 'show: unknown option "--changes=1"; see show --help' "$t" --changes=1
+refused "changes before another trace" 2 "show: more than one trace: \"$example\"; see show --help" "$t" --changes "$example"
+for option in --repaint --at --pbm; do
+    refused "changes as the value of $option" 2 "show: no value after \"$option\"; see show --help" "$t" $option --changes
+done
+
 # ---- N ----
 
 records "2 0 AF" >"$t"
@@ -513,8 +709,11 @@ for arguments in "--help" "$t --foo --help"; do
     run $arguments
     check "$arguments: status $status" same "$status" 0
     check "$arguments: a message" [ ! -s "$work/err" ]
-    check "$arguments: usage" same "$(head -n 1 "$work/out")" "Usage: show TRACE [--repaint PICTURE] [--at N] [--pbm FILE]"
+    check "$arguments: usage" same "$(head -n 1 "$work/out")" "Usage: show TRACE [--repaint PICTURE] [--at N] [--changes] [--pbm FILE]"
     check "$arguments: usage, live" same "$(sed -n 2p "$work/out")" "       show --live"
+    for option in --repaint --at --changes --pbm --live --help; do
+        check "$arguments: $option" same "$(grep -c -e "^  $option " "$work/out")" 1
+    done
 done
 
 echo "show: $checks checks, $failed failed"

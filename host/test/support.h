@@ -1,6 +1,7 @@
 /*
- * What test.c, lists.c, compare.c, feeds.c and bench.c share: random numbers, traces, random states, the
- * plain implementation's names. Everything is static inline, so that each program takes what it needs.
+ * What test.c, changes.c, lists.c, compare.c, feeds.c and bench.c share: random numbers, traces, random
+ * states, the plain implementation's names. Everything is static inline, so that each program takes what
+ * it needs.
  */
 #ifndef SUPPORT_H
 #define SUPPORT_H
@@ -29,8 +30,11 @@ enum {
     REPAINT_RECORDS = PEDRALUME_REPAINT_RECORDS,
     REPAINT = PEDRALUME_REPAINT_BYTES,
     FEED = PEDRALUME_FEED_BYTES,
+    ENTRY = PEDRALUME_ENTRY_BYTES,
+    ENTRIES_MAX = PEDRALUME_ENTRIES_MAX_BYTES,
     WIDTH = 122,
-    HALF_WIDTH = 61
+    HALF_WIDTH = 61,
+    HALF_PIXELS = 32 * HALF_WIDTH
 };
 
 /* Highest value of each field of a chip record. */
@@ -47,6 +51,8 @@ typedef uint64_t close_call(uint8_t *, size_t);
 extern open_call plain_feed_open;
 extern replay_call plain_feed_part;         /* a feed record where replay has chips */
 extern close_call plain_feed_close;
+typedef uint64_t changes_call(const uint8_t *, size_t, const uint8_t *, size_t, const uint8_t *, size_t, uint8_t *, size_t);
+extern changes_call plain_changes;
 
 /* ---- answers ---- */
 
@@ -262,6 +268,15 @@ static inline void put_valid(struct trace *t, struct rng *g, const uint8_t *chip
             put_command(t, chip, draw_plain_command(g));
         }
     }
+}
+
+/* The same with display off and static drive on only now and then, so that many records are seen on the panel. */
+static inline void put_shown(struct trace *t, struct rng *g, const uint8_t *chips, size_t records)
+{
+    put_valid(t, g, chips, records);
+    for (uint8_t *record = t->bytes; record < t->bytes + t->len; record += RECORD)
+        if (record[0] == PEDRALUME_COMMAND_WRITE && (record[2] == 0xAE || record[2] == 0xA5) && !one_in(g, 16))
+            record[2] = record[2] == 0xAE ? 0xAF : 0xA4;
 }
 
 /* Gives each read that is answered the answered byte half of the time, and a random byte else. */

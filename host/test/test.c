@@ -3,37 +3,11 @@
  * of document 02, through the archive. What is expected is written out here from the documents, not
  * taken from any implementation; what a feed leaves is told by the archive's replays of whole records.
  */
-#include "support.h"
+#define PROGRAM "test"
+#include "check.h"
 
 /* Bytes past the longest buffer any call may take; they must stay too. */
 enum { SLACK = 16, ANSWERS = 2 * RECORDS_MAX };
-
-static unsigned checks, failures;
-
-static void check(bool good, int line, const char *what)
-{
-    checks++;
-    if (good)
-        return;
-    failures++;
-    printf("test.c:%d: failed: %s\n", line, what);
-}
-
-static void check_answer(uint64_t got, uint64_t want, int line)
-{
-    checks++;
-    if (got == want)
-        return;
-    failures++;
-    printf("test.c:%d: failed:", line);
-    print_answer("want", want);
-    print_answer("got", got);
-    printf("\n");
-}
-
-#define CHECK(condition) check((condition), __LINE__, #condition)
-#define CHECK_ANSWER(got, number, place, compared, differing) \
-    check_answer((got), answer_of((number), (place), (compared), (differing)), __LINE__)
 
 /* ---- what a replay is lent ---- */
 
@@ -690,31 +664,6 @@ static void panel_command(struct panel *p, unsigned chip, unsigned byte)
     CHECK_ANSWER(pedralume_replay(p->chips, CHIPS, p->ram, RAM, record, RECORD, answer, 2), 0, 1, 0, 0);
 }
 
-static unsigned bit(unsigned byte, unsigned n)
-{
-    return byte >> n & 1;
-}
-
-static unsigned pixel(const uint8_t *frame, unsigned x, unsigned row)
-{
-    return bit(frame[x + WIDTH * (row / 8)], row % 8);
-}
-
-/* The pixel as document 01 says it, one at a time. */
-static unsigned expect_pixel(const struct panel *p, unsigned x, unsigned row)
-{
-    const uint8_t *c = p->chips + CHIP * (x / 61);
-    unsigned n = x % 61, column = c[PEDRALUME_ADC] ? 79 - n : n;
-    unsigned line = (c[PEDRALUME_START_LINE] + row) % 32;
-    if (c[PEDRALUME_DISPLAY] == 0)
-        return 0;
-    if (c[PEDRALUME_STATIC] == 1)
-        return 1;
-    if (c[PEDRALUME_DUTY] == 0 && row >= 16)
-        return 0;
-    return bit(p->ram[HALF_RAM * (x / 61) + 80 * (line / 8) + column], line % 8);
-}
-
 static void test_frame_of(struct panel *p)
 {
     struct panel before = *p;
@@ -722,7 +671,7 @@ static void test_frame_of(struct panel *p)
     CHECK_ANSWER(frame_of(p), 0, 488, 0, 0);
     for (unsigned x = 0; x < WIDTH; x++)
         for (unsigned row = 0; row < 32; row++)
-            wrong += pixel(p->frame, x, row) != expect_pixel(p, x, row);
+            wrong += pixel(p->frame, x, row) != expect_pixel(p->chips, p->ram, x, row);
     CHECK(wrong == 0);
     memcpy(before.frame, p->frame, FRAME);
     CHECK(memcmp(&before, p, sizeof before) == 0);
@@ -1089,7 +1038,7 @@ static void check_feed_answer(uint64_t got, unsigned number, uint64_t place, int
     if (got == want)
         return;
     failures++;
-    printf("test.c:%d: failed:", line);
+    printf(PROGRAM ".c:%d: failed:", line);
     print_feed_answer("want", want);
     print_feed_answer("got", got);
     printf("\n");
@@ -1738,6 +1687,5 @@ int main(void)
 #ifdef WITH_FEED
     test_feeds();
 #endif
-    printf("test: %u checks, %u failed\n", checks, failures);
-    return failures == 0 ? EXIT_SUCCESS : EXIT_FAILURE;
+    return end_of_checks();
 }

@@ -1,0 +1,71 @@
+/*
+ * What test.c and changes.c share: checks that are counted and told by the line they stand in, and
+ * document 01's pixels. The program names itself in PROGRAM first. Static inline as in support.h.
+ */
+#ifndef CHECK_H
+#define CHECK_H
+
+#include "support.h"
+
+static unsigned checks, failures;
+
+static inline void check(bool good, int line, const char *what)
+{
+    checks++;
+    if (good)
+        return;
+    failures++;
+    printf(PROGRAM ".c:%d: failed: %s\n", line, what);
+}
+
+static inline void check_answer(uint64_t got, uint64_t want, int line)
+{
+    checks++;
+    if (got == want)
+        return;
+    failures++;
+    printf(PROGRAM ".c:%d: failed:", line);
+    print_answer("want", want);
+    print_answer("got", got);
+    printf("\n");
+}
+
+#define CHECK(condition) check((condition), __LINE__, #condition)
+#define CHECK_ANSWER(got, number, place, compared, differing) \
+    check_answer((got), answer_of((number), (place), (compared), (differing)), __LINE__)
+
+/* ---- pixels ---- */
+
+static inline unsigned bit(unsigned byte, unsigned n)
+{
+    return byte >> n & 1;
+}
+
+static inline unsigned pixel(const uint8_t *frame, unsigned x, unsigned row)
+{
+    return bit(frame[x + WIDTH * (row / 8)], row % 8);
+}
+
+/* The pixel as document 01 says it, one at a time. */
+static inline unsigned expect_pixel(const uint8_t *chips, const uint8_t *ram, unsigned x, unsigned row)
+{
+    const uint8_t *c = chips + CHIP * (x / 61);
+    unsigned n = x % 61, column = c[PEDRALUME_ADC] ? 79 - n : n;
+    unsigned line = (c[PEDRALUME_START_LINE] + row) % 32;
+    if (c[PEDRALUME_DISPLAY] == 0)
+        return 0;
+    if (c[PEDRALUME_STATIC] == 1)
+        return 1;
+    if (c[PEDRALUME_DUTY] == 0 && row >= 16)
+        return 0;
+    return bit(ram[HALF_RAM * (x / 61) + 80 * (line / 8) + column], line % 8);
+}
+
+/* The last line that a program prints, and its status. */
+static inline int end_of_checks(void)
+{
+    printf(PROGRAM ": %u checks, %u failed\n", checks, failures);
+    return failures == 0 ? EXIT_SUCCESS : EXIT_FAILURE;
+}
+
+#endif
