@@ -44,6 +44,7 @@ cp "$archive" "$work/archive"
 touch target/bin/replay "$archive"
 host/build/show examples/name.trace >"$work/shown" || exit 1
 host/build/show --live <examples/name.trace >"$work/live" || exit 1
+host/build/show examples/name.trace --repaint examples/name.pbm --changes >"$work/changes" || exit 1
 
 # ---- replay: good uses ----
 
@@ -133,6 +134,8 @@ ln -s "$PWD/show" "$work/folder/show"
 cp examples/name.trace "$work/folder/n"
 run sh -c 'cd ../folder && ./show n'; shown "show, a link from another folder" ""
 run ./show --live <examples/name.trace; ended "show --live" 0 ""; printed "show --live" "$work/live"; called "show --live" ""
+run ./show examples/name.trace --repaint examples/name.pbm --changes; ended "show --changes" 0 ""; printed "show --changes" "$work/changes"
+called "show --changes" ""
 run ./show --live examples/name.trace; ended "show --live with a file" 2 \
     'show: --live takes standard input and no file: "examples/name.trace"; see show --help'
 run ./show; ended "show with no file" 2 'show: no file for "TRACE"; see show --help'
