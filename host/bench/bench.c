@@ -1,7 +1,8 @@
 /*
  * Times the archive against the plain implementation: each record of a full trace (16,384 records),
- * each frame, each repaint; each record of a full trace whose changes are listed; and the archive's feed,
- * in parts of several lengths, against its own replay of the same trace. Both sides get the same bytes.
+ * each frame, each repaint; each record of a full trace whose changes are listed, where the plain one draws
+ * the whole frame at every record; and the archive's feed, in parts of several lengths, against its own
+ * replay of the same trace. Both sides get the same bytes.
  * The jobs are gone through in rounds, and within a job the two take turns, so that all see the same
  * machine; the best turn of each counts.
  *

@@ -28,7 +28,10 @@ static const uint8_t *entry_at(const struct list *list, size_t i)
 
 /* ---- a record in words ---- */
 
-/* Document 01's table; a command of more than one byte has a number, counted from the first. */
+/*
+ * Document 01's table, though not every command can change the panel; one that has several bytes is said
+ * with a number, counted from the first.
+ */
 static const struct {
     uint8_t first, last;
     const char *words;

@@ -1,6 +1,6 @@
 -- A feed as the C side has it: a record of 48 bytes, no header. 24 of the chips; kept count; 3 kept bytes; 1 = stopped; number; two 0; then four
 -- numbers of 4 bytes, lowest first: place, records, compared, differing.
-use Prim.Native.Nat.{ℕ, _+_, _*_, _/_, _%_}
+use Prim.Native.Nat.{ℕ, _+_, _*_}
 use mathlib.Core.Bool.{Bool, _&&_, _||_}
 use mathlib.Core.List.{List, [], _∷_, _++_}
 use lib.Dec.{eqb}

@@ -1,4 +1,4 @@
--- What is proved of the 64-bit number of the calls but the feed's, beside their contracts.
+-- What is proved of the 64-bit number of every call but the feed's three, beside their contracts.
 use Prim.Native.Nat.{ℕ, _/_, _%_, _^_, _<_}
 use mathlib.Core.Path.{_≡_}
 use mathlib.Core.List.{List}

@@ -1,4 +1,4 @@
-// The 64-bit number that the calls but the feed's give back.
+// The 64-bit number that every call but the feed's three gives back.
 ghost use Prim.Native.Nat.{_<_};
 ghost use mathlib.Core.Path.{_≡_};
 ghost use Rattle.pedralume.specs.Call.{packed};

@@ -1,22 +1,21 @@
 -- A panel that shows what it showed: switches, start lines and the bytes of the shown pages as they were.
-use Prim.Native.Nat.{ℕ, _+_, _/_, _<_, _≤_}
+use Prim.Native.Nat.{ℕ, _+_, _/_, _<_}
 use native.Mathlib.Omega.{arith}
 use mathlib.Core.Path.{_≡_, refl, sym, ap, _∙_}
 use mathlib.Core.Bool.{true}
 use mathlib.Core.List.{List}
 use mathlib.Core.Logic.{_⊎_, inl, inr, ⊎-elim}
 use lib.Dec.{eqb, ltb}
-use lib.ListN.{length, getD}
-use lib.Seq.{ext-getD}
+use lib.ListN.{length}
 use borrow.Author.Tests.{eqb-true, ltb-true, ltb-false}
 use Rattle.basics.proofs.Tests.{tested, either, when}
 use Rattle.sed1520.specs.Chip.{inRange}
 use Rattle.sed1520.specs.Memory.{byteAt}
 use Rattle.sed1520.specs.Panel.{Panel, chipAt, ramAt}
-use Rattle.sed1520.specs.Laws.{ShownRegisters, shownBy, Registers, registers, Whole}
+use Rattle.sed1520.specs.Laws.{ShownRegisters, shownBy, Registers, Whole}
 use Rattle.sed1520.specs.declared.registers.Chip.{Chip}
 use Rattle.sed1520.proofs.WholePanel.{whole-fit}
-use Rattle.frame.specs.Frame.{segments, frameBytes, columnOf, frameByte, frameOf, framePlace}
+use Rattle.frame.specs.Frame.{segments, frameBytes, columnOf, frameByte, frameOf}
 use Rattle.frame.specs.Laws.{TwoPages}
 use Rattle.frame.proofs.HalfLaws.{half-laws}
 use Rattle.frame.proofs.Places.{same-places}

@@ -1,20 +1,19 @@
 -- Entries put into a buffer one after the other, as far as there is room.
-use Prim.Native.Nat.{ℕ, _+_, _-_, _*_, _/_, _<_, _≤_}
+use Prim.Native.Nat.{ℕ, _+_, _-_, _*_, _/_, _<_}
 use native.Mathlib.Omega.{arith}
-use mathlib.Core.Path.{_≡_, refl, sym, _∙_}
-use mathlib.Core.Bool.{true, false}
+use mathlib.Core.Path.{_≡_, refl}
 use mathlib.Core.List.{List, [], _∷_, _++_, append-assoc, append-nil, flatMap}
 use mathlib.Core.Logic.{⊎-elim}
 use lib.Dec.{ltb, eqb}
 use lib.ListN.{length, take, drop, length-append, length-take}
 use lib.Seq.{take-nil, take-all, take-append-le, drop-drop, take-at, drop-at}
-use borrow.Author.Tests.{eq-eqb, ne-eqb, lt-ltb, le-ltb, ltb-true, ltb-false}
+use borrow.Author.Tests.{ltb-true, ltb-false}
 use Rattle.basics.specs.Choice.{if}
 use Rattle.basics.proofs.Filling.{Begun, begun-length}
 use Rattle.basics.proofs.Lists.{flat-append, flat-length}
 use Rattle.basics.proofs.Tests.{tested}
 use Rattle.visible.specs.Changes.{Entry, entryBytes, entriesBytes}
-use Rattle.visible.specs.Sight.{Listing, listing, putEntry, oneMore, putEntries}
+use Rattle.visible.specs.Sight.{listing, putEntry, oneMore, putEntries}
 
 -- entries that are put
 pub put-length : (entries : List Entry) → length (entriesBytes entries) ≡ 8 * length entries

@@ -1,5 +1,4 @@
 -- `visible::half::differing` meets its contract.
-use borrow.Author.Needs.{needs}
 use Rattle.visible.proofs.Bits.{ones-differing}
 use Rattle.visible.proofs.half.differing.Statement.{statement}
 use Rattle.visible.proofs.half.differing.Tie as tie

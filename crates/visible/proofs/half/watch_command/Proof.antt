@@ -1,9 +1,7 @@
 -- `visible::half::watch_command` meets its contract: nothing where the registers stand alike, else the half counted.
 use native.Mathlib.Omega.{arith}
 use mathlib.Core.Path.{sym, _∙_}
-use lib.ListN.{length}
 use borrow.Author.Needs.{needs}
-use Rattle.sed1520.proofs.CycleKeeps.{every-cycle-keeps}
 use Rattle.visible.proofs.HalfSights.{told-same, seen, left-whole, same-sight, command-sight}
 use Rattle.visible.proofs.half.watch_command.Statement.{statement}
 use Rattle.visible.proofs.half.watch_command.Tie as tie
