@@ -211,9 +211,9 @@
  *    1   RFPOL chips not 24 bytes                                  0
  *        R     trace over 65,536 bytes; RAM not 640; answers       0
  *              under 2 bytes for each whole record of the trace
- *        L     trace over 65,536 bytes; RAM not 640                0
  *        F     RAM not 640; frame not 488                          0
  *        P     picture not 244; output buffer under 1,016          0
+ *        L     trace over 65,536 bytes; RAM not 640                0
  *        OTC   feed record not 48 bytes                            0
  *        T     part over 65,536 bytes; RAM not 640; answers        0
  *              under 2 bytes for each record that the part
