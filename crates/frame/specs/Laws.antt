@@ -11,6 +11,7 @@ use Rattle.sed1520.specs.Laws.{shownBy, Whole}
 use Rattle.sed1520.specs.Memory.{byteAt}
 use Rattle.sed1520.specs.Panel.{Panel, chipAt, ramAt}
 use Rattle.sed1520.specs.Verdict.{verdict, filled}
+use Rattle.sed1520.specs.Chip.{columnStop}
 use Rattle.sed1520.specs.declared.registers.Chip.{Chip}
 use Rattle.frame.specs.Frame.{segments, columns, frameBytes, columnOf, pixel, frameByte, frameOf, framePlace, framed}
 
@@ -48,7 +49,7 @@ pub record TwoPages (c : Chip) : Type 0 where
 -- the RAM column of a segment exists; the frame's length and where a half stands in it; a half's bytes by its pixels and its pixels by its bytes;
 -- what alone it depends on; and the two whole pages, dark below
 pub record HalfLaws : Type 0 where
-  pub column : (c : Chip) (n : ℕ) → n < segments → columnOf c n < 80
+  pub column : (c : Chip) (n : ℕ) → n < segments → columnOf c n < columnStop
   pub whole : (p : Panel) → length (frameOf p) ≡ frameBytes
   pub place : (p : Panel) (chip n r : ℕ) → n < segments → r < 4
       → getD (frameOf p) (framePlace chip n r) 0 ≡ frameByte (chipAt p chip) (ramAt p chip) n r

@@ -9,6 +9,7 @@ ghost use lib.Dec.{leb};
 ghost use lib.ListN.{length};
 ghost use Rattle.frame.specs.Frame.{frameBytes, columnOf, lineBit, packedPixels, frameByte, halfRow};
 ghost use Rattle.frame.specs.Frame.{frameOf, frameSizesWrong, framed};
+ghost use Rattle.sed1520.specs.Chip.{columnStop};
 ghost use Rattle.sed1520.specs.Laws.{Fit, Whole};
 ghost use Rattle.sed1520.specs.Panel.{panelOf};
 ghost use Rattle.sed1520.specs.Verdict.{filled};
@@ -22,7 +23,7 @@ pub const FRAME_BYTES: usize = Chip::PANEL_WIDTH * 4;
 
 // The RAM column of a segment.
 pub(crate) fn column_of(chip: Chip, n: usize) -> usize
-    requires { ⌜ n < 80 ⌝ }
+    requires { ⌜ n < columnStop ⌝ }
     ensures { λ r. ⌜ r ≡ columnOf chip n ⌝ }
 {
     if chip.reverse { 79 - n } else { n }
@@ -39,7 +40,7 @@ fn eight_lines(upper: u8, lower: u8, line: usize) -> u8
 // The eight pixels of a column from a RAM line on, out of the two pages that they lie in.
 fn lines_from(ram: &[u8], column: usize, line: usize) -> u8
     requires { ⌜ length (now ram) ≡ 320 ⌝ }
-    requires { ⌜ column < 80 ⌝ }
+    requires { ⌜ column < columnStop ⌝ }
     requires { ⌜ line < 64 ⌝ }
     ensures { λ r. ⌜ r ≡ packedPixels (lineBit (now (ram .entry)) column) line 8 ⌝ }
 {
@@ -59,7 +60,7 @@ fn rows_dark(chip: Chip, r: usize) -> bool
 // The byte of a segment in the eight rows from 8 r.
 fn segment_byte(chip: Chip, ram: &[u8], n: usize, r: usize) -> u8
     requires { ⌜ Fit chip (now ram) ⌝ }
-    requires { ⌜ n < 80 ⌝ }
+    requires { ⌜ n < columnStop ⌝ }
     requires { ⌜ r < 4 ⌝ }
     ensures { λ b. ⌜ b ≡ frameByte chip (now (ram .entry)) n r ⌝ }
 {
@@ -80,7 +81,7 @@ fn segment_byte(chip: Chip, ram: &[u8], n: usize, r: usize) -> u8
 fn fill_half(chip: Chip, ram: &[u8], r: usize, half: &mut [u8])
     requires { ⌜ Fit chip (now ram) ⌝ }
     requires { ⌜ r < 4 ⌝ }
-    requires { ⌜ length (now half) ≤ 80 ⌝ }
+    requires { ⌜ length (now half) ≤ columnStop ⌝ }
     ensures { λ _. ⌜ now (half .exit) ≡ halfRow (length (now (half .entry))) chip (now (ram .entry)) r ⌝ }
 {
     let mut n = 0;

@@ -3,6 +3,7 @@ ghost use Prim.Native.Nat.{_+_, _*_, _/_, _%_, _^_, _<_};
 ghost use mathlib.Core.Path.{_≡_};
 ghost use lib.ListN.{length};
 ghost use Rattle.frame.specs.Frame.{lineBit, packedPixels, segmentPixels};
+ghost use Rattle.sed1520.specs.Chip.{columnStop};
 use crate::column_of;
 use sed1520::memory::index;
 use sed1520::registers::Chip;
@@ -20,7 +21,7 @@ fn four_bytes(first: u8, second: u8, third: u8, fourth: u8) -> u32
 // The four pages of a column as one number, line 0 lowest.
 fn column_lines(ram: &[u8], column: usize) -> u32
     requires { ⌜ length (now ram) ≡ 320 ⌝ }
-    requires { ⌜ column < 80 ⌝ }
+    requires { ⌜ column < columnStop ⌝ }
     ensures { λ r. ⌜ r ≡ packedPixels (lineBit (now (ram .entry)) column) 0 32 ⌝ }
 {
     let first = index(0, column as u8);

@@ -6,7 +6,7 @@ use lib.Dec.{ltb, eqb}
 use lib.ListN.{length, getD, drop}
 use Rattle.basics.specs.Choice.{if}
 use Rattle.basics.specs.Lists.{tabulated}
-use Rattle.sed1520.specs.Chip.{inRange}
+use Rattle.sed1520.specs.Chip.{columnStop, inRange}
 use Rattle.sed1520.specs.Command.{first}
 use Rattle.sed1520.specs.Laws.{sent}
 use Rattle.sed1520.specs.Records.{recordsBytes}
@@ -23,7 +23,7 @@ hiddenPage c r = if (eqb (c .«start_line») 0) (2 + r) r
 
 -- the lowest RAM column that a segment is shown from
 abbrev pub lowestColumn : Chip → ℕ
-lowestColumn c = if (c .reverse) (80 - segments) 0
+lowestColumn c = if (c .reverse) (columnStop - segments) 0
 
 -- the segment that is shown from the j-th of these columns
 abbrev pub segmentOf : Chip → ℕ → ℕ

@@ -7,6 +7,10 @@ use Rattle.sed1520.specs.declared.registers.Chip.{Chip}
 use Rattle.sed1520.specs.declared.registers.ReadLatch.{ReadLatch}
 use Rattle.sed1520.specs.declared.registers.ReadLatch.the-variants.{Fresh, Stale}
 
+-- how many columns a chip has, and so the column at which counting stops; a column set is told with more arguments than that, `count Column` of them
+abbrev pub columnStop : ℕ
+columnStop = 80
+
 -- the ranges of document 01, and no saved column while read-modify-write is off
 unfoldable pub inRange : Chip → Bool
 inRange c =

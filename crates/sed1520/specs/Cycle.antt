@@ -6,7 +6,7 @@ use mathlib.Core.Option.{Option, none, some}
 use lib.Dec.{ltb, leb, eqb}
 use lib.ListN.{length}
 use Rattle.basics.specs.Choice.{if}
-use Rattle.sed1520.specs.Chip.{inRange, latched, kindOf, staled}
+use Rattle.sed1520.specs.Chip.{columnStop, inRange, latched, kindOf, staled}
 use Rattle.sed1520.specs.Chip.{withDisplay, withStatic, withDuty, withReverse, withPage, withStartLine, withColumn, withLatch, withModify}
 use Rattle.sed1520.specs.Command.{decodeOf, within}
 use Rattle.basics.specs.Run.{Turn}
@@ -81,14 +81,14 @@ commandWrite b c = executed b (decodeOf b .value) c
 -- a data write; by request C-12 it leaves the read latch stale, below column 80 or not
 unfoldable pub dataWrite : ℕ → Chip → List ℕ → Outcome
 dataWrite b c ram =
-    if (ltb (c .column) 80)
+    if (ltb (c .column) columnStop)
     (outcome (answered 0 0 (staled (withColumn (c .column + 1) c))) (byteSet ram (c .page) (c .column) b))
     (outcome (answered 0 0 (staled c)) ram)
 
 -- the chip after a data read
 unfoldable pub afterRead : Chip → List ℕ → Chip
 afterRead c ram =
-    if (ltb (c .column) 80)
+    if (ltb (c .column) columnStop)
     (withLatch (Fresh (byteAt ram (c .page) (c .column))) (withColumn (if (c .modify) (c .column) (c .column + 1)) c))
     (staled c)
 

@@ -9,7 +9,7 @@ use lib.Dec.{eqb}
 use lib.ListN.{length}
 use Rattle.basics.specs.Choice.{if}
 use Rattle.basics.specs.Run.{Turn, Run, runOf}
-use Rattle.sed1520.specs.Chip.{latched, staled, withLatch}
+use Rattle.sed1520.specs.Chip.{columnStop, latched, staled, withLatch}
 use Rattle.sed1520.specs.Command.{first, within}
 use Rattle.sed1520.specs.Cycle.{Reply, cycleOf, turnOf}
 use Rattle.sed1520.specs.Laws.{sent, Fit}
@@ -34,7 +34,7 @@ pub record LatchTurnsStale : Type 0 where
 -- first one addressed
 abbrev pub OneEmptyRead : Type 0
 OneEmptyRead =
-    (c : Chip) (ram : List ℕ) → Fit c ram → c .column < 80 → (k : ℕ) → k < 2 → (a b : ℕ)
+    (c : Chip) (ram : List ℕ) → Fit c ram → c .column < columnStop → (k : ℕ) → k < 2 → (a b : ℕ)
     → let empty = cycleOf (sent 5 k a) c ram in let answer = cycleOf (sent 5 k b) (empty .answer .chip) (empty .ram) .answer in
     (answer .number ≡ 0) × ((answer .kind ≡ 1) × (answer .byte ≡ byteAt ram (c .page) (c .column)))
 
@@ -53,7 +53,7 @@ Near n c = CountedPast n c ⊎ Addressed n c
 -- a byte stands in RAM on the page addressed, in such a column
 pub record Stands (c : Chip) (ram : List ℕ) (b : ℕ) : Type 0 where
   pub column : ℕ
-  pub below : column < 80
+  pub below : column < columnStop
   pub near : Near column c
   pub byte : byteAt ram (c .page) column ≡ b
 

@@ -1,11 +1,11 @@
 -- The laws by which the layers above know the cycle: what the records that they send do to the registers that they look at and to the RAM, and what
--- any record can change of what a frame looks at. The read latch, the saved column and where the column goes from 80 on are left unsaid.
+-- any record can change of what a frame looks at. The read latch, the saved column and where the column goes past the last one are left unsaid.
 use Prim.Native.Nat.{ℕ, _+_, _<_}
 use mathlib.Core.Path.{_≡_}
 use mathlib.Core.Bool.{Bool, true, false}
 use mathlib.Core.List.{List}
 use lib.ListN.{length}
-use Rattle.sed1520.specs.Chip.{inRange, withPage, withColumn, withStartLine}
+use Rattle.sed1520.specs.Chip.{columnStop, inRange, withPage, withColumn, withStartLine}
 use Rattle.sed1520.specs.Command.{first}
 use Rattle.sed1520.specs.Memory.{byteAt, byteSet}
 use Rattle.sed1520.specs.Cycle.{cycleOf}
@@ -66,20 +66,20 @@ pub record Accepts (r : Record) (c : Chip) (ram : List ℕ) (next : Registers) (
 pub record Touches (r : Record) (c : Chip) (ram : List ℕ) : Type 0 where
   pub registers-kept : (r .lines ≡ 2 → ⊥) → shownBy (cycleOf r c ram .answer .chip) ≡ shownBy c
   pub ram-kept : (r .lines ≡ 3 → ⊥) → cycleOf r c ram .ram ≡ ram
-  pub columns-kept : (page column : ℕ) → column < 80 → (column ≡ c .column → ⊥)
+  pub columns-kept : (page column : ℕ) → column < columnStop → (column ≡ c .column → ⊥)
       → byteAt (cycleOf r c ram .ram) page column ≡ byteAt ram page column
 
 -- every cycle
 abbrev pub EveryCycleTouches : Type 0
 EveryCycleTouches = (r : Record) (c : Chip) (ram : List ℕ) → Touches r c ram
 
--- the page set, the start line set, the column set below 80 with read-modify-write off, and the data write below column 80, on either chip
+-- the page set, the start line set, the column set with read-modify-write off, and the data write, at columns that the chip has, on either chip
 pub record CycleLaws : Type 0 where
   pub page-set : (c : Chip) (ram : List ℕ) → Fit c ram → (k : ℕ) → k < 2 → (n : ℕ) → n < 4
       → Accepts (sent 2 k (first Page + n)) c ram (registers (withPage n c)) ram
   pub start-line-set : (c : Chip) (ram : List ℕ) → Fit c ram → (k : ℕ) → k < 2 → (n : ℕ) → n < 32
       → Accepts (sent 2 k (first StartLine + n)) c ram (registers (withStartLine n c)) ram
-  pub column-set : (c : Chip) (ram : List ℕ) → Fit c ram → (k : ℕ) → k < 2 → (n : ℕ) → n < 80 → c .modify ≡ false
+  pub column-set : (c : Chip) (ram : List ℕ) → Fit c ram → (k : ℕ) → k < 2 → (n : ℕ) → n < columnStop → c .modify ≡ false
       → Accepts (sent 2 k (first Column + n)) c ram (registers (withColumn n c)) ram
-  pub data-write : (c : Chip) (ram : List ℕ) → Fit c ram → (k : ℕ) → k < 2 → (b : ℕ) → c .column < 80
+  pub data-write : (c : Chip) (ram : List ℕ) → Fit c ram → (k : ℕ) → k < 2 → (b : ℕ) → c .column < columnStop
       → Accepts (sent 3 k b) c ram (registers (withColumn (c .column + 1) c)) (byteSet ram (c .page) (c .column) b)

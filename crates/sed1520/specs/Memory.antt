@@ -2,10 +2,11 @@
 use Prim.Native.Nat.{ℕ, _+_, _*_}
 use mathlib.Core.List.{List}
 use lib.ListN.{getD, set}
+use Rattle.sed1520.specs.Chip.{columnStop}
 
 -- where the byte of a page and a column lies
 unfoldable pub ramIndex : ℕ → ℕ → ℕ
-ramIndex page column = 80 * page + column
+ramIndex page column = columnStop * page + column
 
 -- the byte of a page and a column
 abbrev pub byteAt : List ℕ → ℕ → ℕ → ℕ

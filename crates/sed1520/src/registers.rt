@@ -64,7 +64,7 @@ impl Chip {
     // The columns of the panel: the segments of two chips.
     pub const PANEL_WIDTH: usize = 2 * Chip::SEGMENTS;
     // The bytes of a page of display RAM.
-    pub const PAGE_WIDTH: usize = 80;
+    pub const PAGE_WIDTH: usize = Chip::COLUMN_STOP as usize;
     // The bytes of a chip's four pages.
     pub const RAM_WIDTH: usize = 4 * Chip::PAGE_WIDTH;
 

@@ -51,14 +51,18 @@ fn same_registers(one: Chip, other: Chip) -> bool
                 & ((one.reverse == other.reverse) & (one.start_line == other.start_line))))
 }
 
-// The segment that shows the column at which a chip stands; past the last segment the column is not shown. From column 80
-// on nothing is written, and any number will do.
+// The segment that shows the column at which a chip stands; past the last segment the column is not shown. Where counting
+// has stopped nothing is written, and any number will do.
 fn segment_at(chip: Chip) -> usize
     ensures { λ r. ⌜ r ≡ columnOf chip (chip .column) ⌝ }
 {
     let column = chip.column as usize;
     if chip.reverse {
-        if column < 80 { 79 - column } else { 0 }
+        if column < Chip::PAGE_WIDTH {
+            79 - column
+        } else {
+            0
+        }
     } else {
         column
     }
