@@ -39,8 +39,8 @@
  *    4    read-modify-write    0 off, 1 on
  *    5    page                 0 to 3
  *    6    start line           0 to 31
- *    7    column               0 to 127
- *    8    saved column         0 to 127; 0 while read-modify-write is off
+ *    7    column               0 to 80: 79 is the last with a RAM cell, at 80 counting stops
+ *    8    saved column         0 to 80; 0 while read-modify-write is off
  *    9    read latch mark      0 stale, 1 fresh
  *   10    read latch byte      any
  *   11    -                    0
@@ -64,20 +64,20 @@
  * at once; a longer trace is replayed through a feed and listed in blocks.
  *
  * Commands:
- *   00-7F  column = byte; read latch stale      A0 A1  ADC forward, reverse
- *   A4 A5  static drive off, on                 A8 A9  duty 1/16, 1/32
- *   AE AF  display off, on                      B8-BB  page 0 to 3; read latch stale
- *   C0-DF  start line 0 to 31
+ *   00-4F  column = byte; read latch stale      50-7F  column set too, but refused (14)
+ *   A0 A1  ADC forward, reverse                 A4 A5  static drive off, on
+ *   A8 A9  duty 1/16, 1/32                      AE AF  display off, on
+ *   B8-BB  page 0 to 3; read latch stale        C0-DF  start line 0 to 31
  *   E0     read-modify-write on, saved column = column; already on: no change
  *   E2     start line, column and page 0, read latch stale; the rest stays
  *   EE     read-modify-write off, column = saved column, saved column = 0, read latch stale;
  *          already off: no change
  * The other 81 bytes are no command. A stale read latch keeps its byte.
  *
- * Data write: below column 80 the byte is stored and the column rises by 1; from 80 on nothing is
+ * Data write: below column 80 the byte is stored and the column rises by 1; at 80 nothing is
  * stored and the column stays. Either way the read latch becomes stale with the byte it has.
  * Data read: the answer is the read latch. Then, below column 80, the latch becomes fresh with the
- * RAM byte and the column rises by 1 unless read-modify-write is on; from 80 on the latch becomes
+ * RAM byte and the column rises by 1 unless read-modify-write is on; at 80 the latch becomes
  * stale with the byte it has, and the column stays. So the first data read after anything that makes
  * the latch stale is empty: kind 2, a byte to throw away. Made below column 80, it loads the byte of
  * the cell addressed, and a data read of the chip right after it gives that byte as kind 1.
@@ -167,7 +167,7 @@
  * of the records that are accepted. A record refused at a place begins in its part at byte
  * 4 * (place - records before the part) - kept count before the part.
  *
- * A feed is stopped by a refused record (4 to 8), by its close, and by an opening with a bad chip. A
+ * A feed is stopped by a refused record (4 to 8, 14), by its close, and by an opening with a bad chip. A
  * stopped feed takes nothing more: part and close repeat its number and place and change nothing,
  * whatever else they are lent. After any other refusal (1, 13, a later 2) the part is not taken, the
  * close closes nothing, and the feed is as it was: the next call is as if the refused one had not been.
@@ -199,8 +199,8 @@
  * Take it apart with pedralume_number, _place, _compared and _differing below; for a feed with
  * pedralume_number and pedralume_feed_place, and not with the other three. A feed's place has 32 bits,
  * and its counts so far are in its record, whatever the number. For frame, repaint and changes compared
- * and differing are 0. The lowest number whose cause holds is given, but 13 comes right after 1; at equal
- * number the left chip comes before the right one, and both before place 3.
+ * and differing are 0. The lowest number whose cause holds is given, but 13 comes right after 1 and 14
+ * right after 8; at equal number the left chip comes before the right one, and both before place 3.
  *
  *   no.  call  cause                                               place
  *    0   all   done                                                replay: records replayed;
@@ -232,6 +232,7 @@
  *    6   RTL   RD and WR equal                                     record
  *    7   RTL   a command write with a byte that is no command      record
  *    8   RTL   column set (00-7F) while read-modify-write is on    record
+ *   14   RTL   column set from 50 to 7F                            record
  *    9   P     display off, or static drive on                     chip
  *   10   P     duty 1/32                                           chip
  *   11   P     start line neither 0 nor 16                         chip
@@ -243,10 +244,11 @@
  *
  * 1, 2, 3, 9 to 13 and 15: every buffer is as it came. But open's 2 and close's 3 stop the feed: open
  * writes the chips as given, stopped, number and place, the rest 0; close changes these three only.
- * 4 to 8 at record i: chips, RAM and answers are those after the records before i, which stand with
- * their answers; compared and differing count reads before i only; the rest of answers is as it came.
- * A feed is then stopped with that number and place, and its kept count and bytes are 0. But changes
- * leaves every buffer as it came, whatever the number that refuses it.
+ * 4 to 8 and 14 at record i: chips, RAM and answers are those after the records before i, which stand
+ * with their answers; compared and differing count reads before i only; the rest of answers is as it
+ * came. So a refused column set leaves a fresh read latch fresh. A feed is then stopped with that number
+ * and place, and its kept count and bytes are 0. But changes leaves every buffer as it came, whatever the
+ * number that refuses it.
  *
  *
  * EXAMPLE
@@ -350,6 +352,12 @@ extern "C" {
 /* The most records that a feed takes from its opening to its close. */
 #define PEDRALUME_FEED_MAX_RECORDS 4294967295u
 
+/*
+ * The column where counting stops, one past the last that RAM has; the highest in a chip record. A column
+ * set is any of the 128 bytes 00 to 7F all the same: those from this one on are refused (14).
+ */
+#define PEDRALUME_COLUMN_STOP 80u
+
 /* Initialiser of one fresh chip record. */
 #define PEDRALUME_FRESH_CHIP 0, 0, 1, 0, 0, 0, 0, 0, 0, 0, 0, 0
 
@@ -418,6 +426,7 @@ enum {
     PEDRALUME_WRONG_START_LINE = 11,
     PEDRALUME_RMW_ON = 12,
     PEDRALUME_TOO_MANY = 13,
+    PEDRALUME_NO_SUCH_COLUMN = 14,
     PEDRALUME_SHORT_ENTRIES = 15
 };
 

@@ -5,6 +5,7 @@
 
 const CHIP: usize = 12;
 const HALF_RAM: usize = 320;
+/// Columns of a page. As a column, the one where counting stops, and the highest in a chip.
 const COLUMNS: u8 = 80;
 const SEGMENTS: usize = 61;
 const WIDTH: usize = 2 * SEGMENTS;
@@ -65,7 +66,7 @@ const WRITTEN: Answer = Answer { kind: 0, byte: 0 };
 
 impl Chip {
     fn decode(bytes: &[u8; CHIP]) -> Option<Chip> {
-        const LIMITS: [u8; CHIP] = [1, 1, 1, 1, 1, 3, 31, 127, 127, 1, 255, 0];
+        const LIMITS: [u8; CHIP] = [1, 1, 1, 1, 1, 3, 31, COLUMNS, COLUMNS, 1, 255, 0];
         let in_range = bytes.iter().zip(&LIMITS).all(|(byte, limit)| byte <= limit);
         let [display, all_lit, duty, adc, rmw, page, start_line, column, saved, mark, latch, _] = *bytes;
         if !in_range || (rmw == 0 && saved != 0) {
@@ -115,6 +116,7 @@ impl Chip {
     fn command(&mut self, byte: u8) -> Result<(), u8> {
         match byte {
             0x00..=0x7F if self.rmw => return Err(8),
+            0x00..=0x7F if byte >= COLUMNS => return Err(14),
             0x00..=0x7F => self.set_column(byte),
             0xA0 | 0xA1 => self.reverse = byte == 0xA1,
             0xA4 | 0xA5 => self.all_lit = byte == 0xA5,

@@ -52,7 +52,7 @@ static const struct {
     { 0xEE, 0xEE, "read-modify-write off" },
 };
 
-/* A byte that is no command is not listed, but refused. */
+/* A byte that is no command, or a column set over 79, is not listed, but refused. */
 static void print_command(uint8_t byte)
 {
     size_t i = 0;

@@ -29,15 +29,22 @@ const char *meaning(unsigned number)
         [PEDRALUME_WRONG_START_LINE] = "a start line neither 0 nor 16",
         [PEDRALUME_RMW_ON] = "read-modify-write on",
         [PEDRALUME_TOO_MANY] = "over 4,294,967,295 records",
+        [PEDRALUME_NO_SUCH_COLUMN] = "a column set over 79 (4F hex), the last column of RAM",
         [PEDRALUME_SHORT_ENTRIES] = "more entries than there is room for",
     };
     bool known = number < sizeof words / sizeof words[0] && words[number] != NULL;
     return known ? words[number] : "which this program does not know";
 }
 
+/* Whether its place is a record. */
+static bool refuses_record(unsigned number)
+{
+    return (number >= PEDRALUME_SPARE_BITS && number <= PEDRALUME_COLUMN_IN_RMW) || number == PEDRALUME_NO_SUCH_COLUMN;
+}
+
 bool trace_refused(const char *name, unsigned number, uint32_t place)
 {
-    if (number >= PEDRALUME_SPARE_BITS && number <= PEDRALUME_COLUMN_IN_RMW)
+    if (refuses_record(number))
         fprintf(stderr, "%s: record %lu refused: number %u, %s\n", name, (unsigned long)place, number, meaning(number));
     else if (number == PEDRALUME_CUT_TRACE)
         fprintf(stderr, "%s: refused: number %u, %s (whole records: %lu)\n", name, number, meaning(number),

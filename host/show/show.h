@@ -35,10 +35,10 @@ struct batch {
  * the failed call left it, and 0 before that call. */
 bool file_failed(const char *path, const char *what);
 
-/* What a number means; document 01's table in a few words. */
+/* What a number means; document 01's table and document 02's numbers in a few words. */
 const char *meaning(unsigned number);
 
-/* The place is a record for numbers 4 to 8, and how many whole records there are for 3. */
+/* The place is a record for numbers 4 to 8 and 14, and how many whole records there are for 3. */
 bool trace_refused(const char *name, unsigned number, uint32_t place);
 
 /* The name is for the message where a record is refused. */

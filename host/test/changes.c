@@ -279,7 +279,7 @@ static void test_both_halves(void)
 static unsigned pixels_of_write(const uint8_t *chip, unsigned old, unsigned byte)
 {
     unsigned page = chip[PEDRALUME_PAGE], column = chip[PEDRALUME_COLUMN], count = 0;
-    bool shown = chip[PEDRALUME_ADC] ? column >= 19 && column < 80 : column < 61;
+    bool shown = chip[PEDRALUME_ADC] ? column >= 19 && column < COLUMN_STOP : column < 61;
     for (unsigned b = 0; shown && b < 8; b++) {
         unsigned row = (8 * page + b + 32 - chip[PEDRALUME_START_LINE]) % 32;
         count += bit(old ^ byte, b) && (chip[PEDRALUME_DUTY] == 1 || row < 16);
@@ -291,11 +291,11 @@ static unsigned pixels_of_write(const uint8_t *chip, unsigned old, unsigned byte
 static void test_write_at(struct view *v, unsigned chip, unsigned page, unsigned column)
 {
     uint8_t *c = v->chips + CHIP * chip;
-    unsigned old = column < 80 ? v->ram[HALF_RAM * chip + 80 * page + column] : 0;
+    unsigned old = column < COLUMN_STOP ? v->ram[HALF_RAM * chip + 80 * page + column] : 0;
     c[PEDRALUME_PAGE] = (uint8_t)page;
     c[PEDRALUME_COLUMN] = (uint8_t)column;
-    WRITE(v, chip, old ^ 0xFF, column < 80 ? pixels_of_write(c, old, old ^ 0xFF) : 0);
-    WRITE(v, chip, old ^ 0x21, column < 80 ? pixels_of_write(c, old, old ^ 0x21) : 0);
+    WRITE(v, chip, old ^ 0xFF, pixels_of_write(c, old, old ^ 0xFF));
+    WRITE(v, chip, old ^ 0x21, pixels_of_write(c, old, old ^ 0x21));
     WRITE(v, chip, old, 0);
 }
 
@@ -312,7 +312,7 @@ static void test_writes(void)
         c[PEDRALUME_DUTY] = way >> 2 & 1;
         c[PEDRALUME_START_LINE] = start_line[way >> 3];
         for (unsigned page = 0; page < 4; page++)
-            for (unsigned column = 0; column < 128; column += column >= 82 ? 15 : 1)
+            for (unsigned column = 0; column <= COLUMN_STOP; column++)
                 test_write_at(&v, chip, page, column);
     }
 }
@@ -343,7 +343,10 @@ static void lit_view_by(struct view *v, unsigned chip, unsigned way, unsigned st
     c[PEDRALUME_COLUMN] = 40;
 }
 
-/* Every command and each other cycle, from each setting of the switches, as the replay and the pixels tell it. */
+/*
+ * Every command and each other cycle, from each setting of the switches, as the replay and the pixels tell it; a column
+ * set from 50 to 7F is refused.
+ */
 static void test_all_cycles(void)
 {
     static const uint8_t start_line[] = { 0, 3, 16, 31 };
@@ -358,7 +361,10 @@ static void test_all_cycles(void)
                 lit_view_by(&v, way & 1, way >> 1, start_line[(way + byte) % 4]);
                 t.len = 0;
                 put_record(&t, lines, way & 1, byte, 0);
-                LISTED(&v, &t, due, expect_changes(&v, &t, due));
+                if (lines == PEDRALUME_COMMAND_WRITE && is_missing_column(byte))
+                    STAYS(&v, &t, CHIPS, RAM, t.len, ROOM, 14, 0);
+                else
+                    LISTED(&v, &t, due, expect_changes(&v, &t, due));
             }
 }
 
@@ -608,6 +614,11 @@ static void test_bad_chips(void)
     }
     v.chips[PEDRALUME_PAGE] = 4;                                    /* both: left before right */
     BAD_CHIP(&v, 0);
+    for (unsigned way = 0; way < COLUMN_WAYS; way++) {
+        fresh_view(&v);
+        struct given_column c = put_column(v.chips, way);
+        STAYS(&v, &empty, CHIPS, RAM, 0, 0, c.number, c.place);
+    }
 }
 
 /* 3, also before a bad record and too little room. */
@@ -629,16 +640,17 @@ static void test_cut_traces(void)
     }
 }
 
-/* Sent after the story, where the left chip is in read-modify-write. Several faults show which number comes first. */
+/* Sent after the story, where only the left chip is in read-modify-write. Several faults show which number comes first. */
 static const struct { uint8_t lines, chip, data, last, number; } bad_records[] = {
     { 0x0A, 0, 0xAF, 0, 4 }, { 0x82, 0, 0xAF, 0, 4 }, { 2, 0, 0xAF, 1, 4 },   { 3, 1, 0, 0x80, 4 }, { 0xFF, 0xFF, 0xFF, 0xFF, 4 },
-    { 2, 0, 0x80, 1, 4 },    { 0, 2, 0x05, 1, 4 },    { 8, 2, 0, 0, 4 },
+    { 2, 0, 0x80, 1, 4 },    { 0, 2, 0x05, 1, 4 },    { 8, 2, 0, 0, 4 },      { 2, 1, 0x64, 1, 4 },
     { 2, 2, 0xAF, 0, 5 },    { 3, 255, 0, 0, 5 },     { 4, 128, 0, 0, 5 },    { 5, 3, 0, 0, 5 },    { 0, 2, 0, 0, 5 },
-    { 2, 2, 0x80, 0, 5 },
+    { 2, 2, 0x80, 0, 5 },    { 2, 2, 0x64, 0, 5 },
     { 0, 0, 0xAF, 0, 6 },    { 1, 1, 0, 0, 6 },       { 6, 0, 0, 0, 6 },      { 7, 1, 0, 0, 6 },    { 0, 0, 0x80, 0, 6 },
-    { 6, 0, 0x05, 0, 6 },
+    { 6, 0, 0x05, 0, 6 },    { 0, 1, 0x64, 0, 6 },
     { 2, 0, 0x80, 0, 7 },    { 2, 1, 0xFF, 0, 7 },    { 2, 0, 0xA2, 0, 7 },   { 2, 0, 0xBC, 0, 7 }, { 2, 1, 0xE3, 0, 7 },
-    { 2, 0, 0x00, 0, 8 },    { 2, 0, 0x05, 0, 8 },    { 2, 0, 0x7F, 0, 8 },
+    { 2, 0, 0x00, 0, 8 },    { 2, 0, 0x05, 0, 8 },    { 2, 0, 0x50, 0, 8 },   { 2, 0, 0x64, 0, 8 }, { 2, 0, 0x7F, 0, 8 },
+    { 2, 1, 0x50, 0, 14 },   { 2, 1, 0x64, 0, 14 },   { 2, 1, 0x7F, 0, 14 },
 };
 
 enum { BAD = sizeof bad_records / sizeof bad_records[0] };
@@ -649,7 +661,7 @@ static void put_bad(struct trace *t, size_t i)
 }
 
 /*
- * 4 to 8 with the record as place, at a late record and at the first, whatever the room: nothing is
+ * 4 to 8 and 14 with the record as place, at a late record and at the first, whatever the room: nothing is
  * listed of the records before either. What follows is not looked at, be it a lower number.
  */
 static void test_refused_records(void)
@@ -686,6 +698,9 @@ static void test_every_place(void)
         t.bytes[RECORD * place + 3] = 1;
         STAYS(&v, &t, CHIPS, RAM, t.len, ROOM, 4, place);
         STAYS(&v, &t, CHIPS, RAM, t.len, 0, 4, place);
+        memcpy(t.bytes + RECORD * place, (const uint8_t[]){ PEDRALUME_COMMAND_WRITE, 1, 100, 0 }, RECORD);
+        STAYS(&v, &t, CHIPS, RAM, t.len, ROOM, 14, place);
+        STAYS(&v, &t, CHIPS, RAM, t.len, 0, 14, place);
     }
 }
 

@@ -1,6 +1,6 @@
 /*
- * What test.c and changes.c share: checks that are counted and told by the line they stand in, and
- * document 01's pixels. The program names itself in PROGRAM first. Static inline as in support.h.
+ * What test.c and changes.c share: checks that are counted and told by the line they stand in, columns to
+ * be given, and document 01's pixels. The program names itself in PROGRAM first. Static inline as in support.h.
  */
 #ifndef CHECK_H
 #define CHECK_H
@@ -33,6 +33,27 @@ static inline void check_answer(uint64_t got, uint64_t want, int line)
 #define CHECK(condition) check((condition), __LINE__, #condition)
 #define CHECK_ANSWER(got, number, place, compared, differing) \
     check_answer((got), answer_of((number), (place), (compared), (differing)), __LINE__)
+
+/* ---- given columns ---- */
+
+/* Way 0 to COLUMN_WAYS - 1: column and saved column of either chip, at every value. */
+enum { COLUMN_WAYS = 2 * 2 * 256 };
+
+/* Where a column was put, and what number 2 makes of it. */
+struct given_column {
+    unsigned chip, field, number, place;
+};
+
+/* Number 2 lets the column stop pass, and no column over it (C-15). A saved column goes with read-modify-write on. */
+static inline struct given_column put_column(uint8_t *chips, unsigned way)
+{
+    unsigned chip = way & 1, field = way & 2 ? PEDRALUME_SAVED_COLUMN : PEDRALUME_COLUMN, value = way >> 2;
+    uint8_t *c = chips + CHIP * chip;
+    c[PEDRALUME_RMW] = field == PEDRALUME_SAVED_COLUMN;
+    c[PEDRALUME_SAVED_COLUMN] = 0;
+    c[field] = (uint8_t)value;
+    return value <= COLUMN_STOP ? (struct given_column){ chip, field, 0, 0 } : (struct given_column){ chip, field, 2, chip };
+}
 
 /* ---- pixels ---- */
 

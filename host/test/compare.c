@@ -68,7 +68,7 @@ static void count(struct tally *t, uint64_t answer)
     t->calls++;
     if (number < NUMBERS)
         t->number[number]++;
-    if (number == 0 || (number >= 4 && number <= 8))
+    if (number == 0 || refuses_record(number))
         t->records += pedralume_place(answer);
     t->compared += pedralume_compared(answer);
     t->differing += pedralume_differing(answer);
@@ -91,7 +91,7 @@ static void fail_part(const struct contest *c, unsigned long at, size_t part, co
 static bool leaves_all(uint64_t answer)
 {
     unsigned number = pedralume_number(answer);
-    return (number >= 1 && number <= 3) || number >= 9;
+    return number != PEDRALUME_DONE && !refuses_record(number);
 }
 
 /* Of changes all that refuse do. */
@@ -202,22 +202,43 @@ static void draw_replay(struct rng *g, struct bundle *b)
     b->part[PART_ANSWERS] = lend(answers, answers_len, 0);
 }
 
+/*
+ * Column sets that were refused: 8 in read-modify-write, else 14. One from 50 to 7F that was never tried in both
+ * would prove little: that is a failure too.
+ */
+static void note_refused_column(bool tried[COLUMN_SETS][2], const struct bundle *given, uint64_t answer)
+{
+    unsigned number = pedralume_number(answer);
+    const uint8_t *record = given->part[PART_TRACE].bytes + RECORD * pedralume_place(answer);
+    if (number == PEDRALUME_COLUMN_IN_RMW || number == PEDRALUME_NO_SUCH_COLUMN)
+        tried[record[2]][number == PEDRALUME_COLUMN_IN_RMW] = true;
+}
+
+static void check_refused_columns(bool tried[COLUMN_SETS][2])
+{
+    for (unsigned byte = COLUMN_STOP; byte < COLUMN_SETS; byte++)
+        if (!tried[byte][false] || !tried[byte][true])
+            fail("replay, column set", byte, "not tried in both modes, draw more cases");
+}
+
 static void compare_replays(uint64_t seed, unsigned long cases)
 {
     static const struct contest contest = {
         "replay", 4, { false, false, true, false }, { pedralume_replay, plain_replay }, { NULL, NULL }, { NULL, NULL },
         { "chips", "RAM", "trace", "answers" }
     };
-    static const bool due[NUMBERS] = { 1, 1, 1, 1, 1, 1, 1, 1, 1, 0, 0, 0, 0 };
+    static const bool due[NUMBERS] = { 1, 1, 1, 1, 1, 1, 1, 1, 1, 0, 0, 0, 0, 0, 1 };
+    static bool tried[COLUMN_SETS][2];
     struct tally tally = { 0 };
     for (unsigned long at = 0; at < cases; at++) {
         struct rng g = rng_for(seed, 1, at);
         struct bundle given;
         draw_replay(&g, &given);
-        contend(&contest, at, &given, &tally);
+        note_refused_column(tried, &given, contend(&contest, at, &given, &tally));
         free_bundle(&given, contest.parts);
     }
     report(&contest, &tally, due);
+    check_refused_columns(tried);
 }
 
 /* ---- the same replay from other latch marks: kinds 1 and 2 and the counts may differ, no byte may ---- */
@@ -378,7 +399,7 @@ static void unready_chip(struct rng *g, uint8_t *chip)
             break;
         default:
             chip[PEDRALUME_RMW] = 1;
-            chip[PEDRALUME_SAVED_COLUMN] = (uint8_t)below(g, 128);
+            chip[PEDRALUME_SAVED_COLUMN] = (uint8_t)below(g, COLUMN_STOP + 1);
         }
 }
 
@@ -573,7 +594,7 @@ static void compare_changes(uint64_t seed, unsigned long cases)
         "changes", 4, { true, true, true, false }, { NULL, NULL }, { NULL, NULL }, { pedralume_changes, plain_changes },
         { "chips", "RAM", "trace", "entries" }
     };
-    static const bool due[NUMBERS] = { 1, 1, 1, 1, 1, 1, 1, 1, 1, 0, 0, 0, 0, 0, 0, 1 };
+    static const bool due[NUMBERS] = { 1, 1, 1, 1, 1, 1, 1, 1, 1, 0, 0, 0, 0, 0, 1, 1 };
     struct tally tally = { 0 };
     struct listing listing = { 0 };
     for (unsigned long at = 0; at < cases; at++) {

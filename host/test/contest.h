@@ -61,7 +61,7 @@ static inline void spoil_chip(struct rng *g, uint8_t *chip)
     unsigned field = below(g, CHIP);
     if (field == PEDRALUME_LATCH_BYTE) {
         chip[PEDRALUME_RMW] = 0;
-        chip[PEDRALUME_SAVED_COLUMN] = (uint8_t)between(g, 1, 127);
+        chip[PEDRALUME_SAVED_COLUMN] = (uint8_t)between(g, 1, COLUMN_STOP);
     } else {
         chip[field] = (uint8_t)(one_in(g, 2) ? field_limit[field] + 1u : between(g, field_limit[field] + 1u, 255));
     }
@@ -96,12 +96,20 @@ static inline unsigned draw_non_command(struct rng *g)
     return byte;
 }
 
-/* Turns record i into a column set, and the one before it into the command that forbids it. */
+static inline unsigned draw_missing_column(struct rng *g)
+{
+    return between(g, COLUMN_STOP, COLUMN_SETS - 1);
+}
+
+/*
+ * Turns record i into a column set, half of the time to a column that RAM has not, and the one before it into
+ * the command that forbids it.
+ */
 static inline void damage_by_mode(struct trace *t, struct rng *g, size_t i)
 {
     uint8_t *at = t->bytes + RECORD * i;
-    unsigned chip = at[1] & 1u;
-    const uint8_t set[RECORD] = { PEDRALUME_COMMAND_WRITE, (uint8_t)chip, (uint8_t)below(g, 128), 0 };
+    unsigned chip = at[1] & 1u, column = one_in(g, 2) ? draw_missing_column(g) : below(g, COLUMN_STOP);
+    const uint8_t set[RECORD] = { PEDRALUME_COMMAND_WRITE, (uint8_t)chip, (uint8_t)column, 0 };
     const uint8_t mode[RECORD] = { PEDRALUME_COMMAND_WRITE, (uint8_t)chip, 0xE0, 0 };
     memcpy(at, set, RECORD);
     if (i > 0)
@@ -112,7 +120,7 @@ static inline void damage_record(struct trace *t, struct rng *g, size_t i)
 {
     static const uint8_t equal_strobes[] = { 0, 1, 6, 7 };
     uint8_t *at = t->bytes + RECORD * i;
-    switch (below(g, 6)) {
+    switch (below(g, 7)) {
     case 0:
         at[0] = (uint8_t)(at[0] | between(g, 1, 31) << 3);
         break;
@@ -128,6 +136,10 @@ static inline void damage_record(struct trace *t, struct rng *g, size_t i)
     case 4:
         at[0] = PEDRALUME_COMMAND_WRITE;
         at[2] = (uint8_t)draw_non_command(g);
+        break;
+    case 5:
+        at[0] = PEDRALUME_COMMAND_WRITE;
+        at[2] = (uint8_t)draw_missing_column(g);
         break;
     default:
         damage_by_mode(t, g, i);

@@ -10,7 +10,7 @@
 #define PROGRAM "feeds"
 #include "contest.h"
 
-enum { NUMBERS = 14, LONGEST_RAM = 1300, LONGEST_FEED = 100, MOST_RECORDS = 300 };
+enum { NUMBERS = 15, LONGEST_RAM = 1300, LONGEST_FEED = 100, MOST_RECORDS = 300 };
 
 /* ---- one call on both sides ---- */
 
@@ -199,7 +199,7 @@ static size_t draw_part(struct rng *g, size_t left)
 /* Puts one byte somewhere in the 48, mostly just over what a field may hold. */
 static void damage_byte(struct session *s)
 {
-    static const uint8_t value[] = { 0, 1, 2, 3, 4, 32, 128, 255 };
+    static const uint8_t value[] = { 0, 1, 2, 3, 4, 32, COLUMN_STOP, COLUMN_STOP + 1, 128, 255 };
     unsigned i = below(s->g, FEED);
     if (s->feed[PEDRALUME_FEED_STOPPED] != 1)
         tally.damaged[i]++;
@@ -297,7 +297,7 @@ static void must_occur(unsigned long times, const char *where, unsigned long at)
 static void report_feeds(unsigned long count)
 {
     static const bool due[KINDS][NUMBERS] = {
-        { 1, 1, 1 }, { 1, 1, 1, 0, 1, 1, 1, 1, 1, 0, 0, 0, 0, 1 }, { 1, 1, 1, 1 }
+        { 1, 1, 1 }, { 1, 1, 1, 0, 1, 1, 1, 1, 1, 0, 0, 0, 0, 1, 1 }, { 1, 1, 1, 1 }
     };
     printf("feeds: %lu feeds, %lu records accepted, %lu parts ended a record begun before; calls by number:\n", count,
            tally.records, tally.straddling);

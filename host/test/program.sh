@@ -21,10 +21,14 @@ printf "$(record 2 0 185 0)$(record 2 0 79 0)$(record 3 0 165 0)$(record 3 0 60 
 compare "the listing" "$in"
 cp "$in" "$traces/nine"
 printf '\003' >>"$in"; compare "cut short" "$in"
-for bad in "8 0 0 0" "2 0 0 1" "2 2 0 0" "6 0 0 0" "2 0 128 0"; do
+for bad in "8 0 0 0" "2 0 0 1" "2 2 0 0" "6 0 0 0" "2 0 128 0" "2 0 80 0" "2 1 100 0" "2 0 127 0"; do
     # shellcheck disable=SC2086
     { cat "$traces/nine"; printf "$(record $bad)"; cat "$traces/nine"; } >"$in"
     compare "refused at record 9 ($bad)" "$in"
+done
+for set in 79 80 127; do
+    { cat "$traces/nine"; printf "$(record 2 0 224 0)$(record 2 1 79 0)$(record 2 0 $set 0)"; cat "$traces/nine"; } >"$in"
+    compare "refused at record 11, column $set in read-modify-write" "$in"
 done
 for size in 65532 65536 65537 65540 200000; do
     yes "$(printf 'x')" | tr 'x\n' '\005\001' | head -c "$size" >"$in"; compare "$size bytes, damaged" "$in"
@@ -33,8 +37,8 @@ for size in 65532 65536 65537 65540 200000; do
 done
 i=0
 while [ "$i" -lt 40 ]; do
-    # random records, mostly valid: lines 2 to 5, chips 0 and 1, any byte; the bytes of RAND make a command valid by chance
-    awk -v seed="$i" 'BEGIN { srand(seed + 1520); n = int(rand() * 600); for (i = 0; i < n; i++) { l = 2 + int(rand() * 4); b = int(rand() * 256); if (l == 2) b = int(rand() * 128); printf "%d %d %d %d\n", l, int(rand() * 2), b, rand() < 0.002 ? 1 : 0 } }' |
+    # random records, mostly valid: lines 2 to 5, chips 0 and 1, any byte; a command is a column set, now and then up to 127
+    awk -v seed="$i" 'BEGIN { srand(seed + 1520); n = int(rand() * 600); for (i = 0; i < n; i++) { l = 2 + int(rand() * 4); b = int(rand() * (l != 2 ? 256 : rand() < 0.02 ? 128 : 80)); printf "%d %d %d %d\n", l, int(rand() * 2), b, rand() < 0.002 ? 1 : 0 } }' |
         while read -r a b c d; do printf "$(record "$a" "$b" "$c" "$d")"; done >"$in"
     compare "random $i" "$in"
     i=$((i + 1))

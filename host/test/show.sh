@@ -325,6 +325,11 @@ refused_at_2 5 "a chip over 1" "2 2 AF"
 refused_at_2 6 "RD and WR equal" "7 0 AF"
 refused_at_2 7 "a byte that is no command" "2 0 80"
 refused_at_2 8 "a column set while read-modify-write is on" "2 0 05" "2 0 E0"
+refused_at_2 8 "a column set while read-modify-write is on" "2 1 50" "2 1 E0"
+no_column="a column set over 79 (4F hex), the last column of RAM"
+refused_at_2 14 "$no_column" "2 0 50"
+refused_at_2 14 "$no_column" "2 1 64" "2 0 E0"
+refused_at_2 14 "$no_column" "2 0 7F" "2 0 4F"
 
 records "2 0 AF" "3 0 01" >"$t"
 printf '\003\000' >>"$t"
@@ -414,6 +419,7 @@ live_refused 6 "RD and WR equal" "7 0 AF"
 live_refused 7 "a byte that is no command" "2 0 80" 7
 { changes; records "2 0 E0" "2 0 05" "3 0 FF"; } >"$t"
 live "number 8" 8 14 "standard input: record 14 refused: number 8, a column set while read-modify-write is on" 3
+live_refused 14 "$no_column" "2 0 64" 7
 
 changes_and_wait() { # all pictures must be there before the input ends; waits up to ten seconds
     changes

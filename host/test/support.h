@@ -32,13 +32,15 @@ enum {
     FEED = PEDRALUME_FEED_BYTES,
     ENTRY = PEDRALUME_ENTRY_BYTES,
     ENTRIES_MAX = PEDRALUME_ENTRIES_MAX_BYTES,
+    COLUMN_STOP = PEDRALUME_COLUMN_STOP,
+    COLUMN_SETS = 0x80,                     /* bytes 00 to 7F are column sets; from COLUMN_STOP on they are refused */
     WIDTH = 122,
     HALF_WIDTH = 61,
     HALF_PIXELS = 32 * HALF_WIDTH
 };
 
 /* Highest value of each field of a chip record. */
-static const uint8_t field_limit[CHIP] = { 1, 1, 1, 1, 1, 3, 31, 127, 127, 1, 255, 0 };
+static const uint8_t field_limit[CHIP] = { 1, 1, 1, 1, 1, 3, 31, COLUMN_STOP, COLUMN_STOP, 1, 255, 0 };
 
 /* The plain implementation. Frame and repaint have the same shape of call. */
 typedef uint64_t replay_call(uint8_t *, size_t, uint8_t *, size_t, const uint8_t *, size_t, uint8_t *, size_t);
@@ -65,6 +67,12 @@ static inline void print_answer(const char *label, uint64_t answer)
 {
     printf(" %s %u %u %u %u", label, pedralume_number(answer), pedralume_place(answer),
            pedralume_compared(answer), pedralume_differing(answer));
+}
+
+/* Whether it refuses a record: the place is that record, and the records before it stand. */
+static inline bool refuses_record(unsigned number)
+{
+    return (number >= PEDRALUME_SPARE_BITS && number <= PEDRALUME_COLUMN_IN_RMW) || number == PEDRALUME_NO_SUCH_COLUMN;
 }
 
 /* ---- feed records ---- */
@@ -189,7 +197,7 @@ static inline void put_status(struct trace *t, unsigned chip, unsigned seen)
 static inline bool is_command(unsigned byte)
 {
     static const uint8_t range[][2] = {
-        { 0x00, 0x7F }, { 0xA0, 0xA1 }, { 0xA4, 0xA5 }, { 0xA8, 0xA9 }, { 0xAE, 0xAF },
+        { 0x00, COLUMN_SETS - 1 }, { 0xA0, 0xA1 }, { 0xA4, 0xA5 }, { 0xA8, 0xA9 }, { 0xAE, 0xAF },
         { 0xB8, 0xBB }, { 0xC0, 0xDF }, { 0xE0, 0xE0 }, { 0xE2, 0xE2 }, { 0xEE, 0xEE },
     };
     for (size_t i = 0; i < sizeof range / sizeof range[0]; i++)
@@ -198,15 +206,22 @@ static inline bool is_command(unsigned byte)
     return false;
 }
 
+/* A column set that is refused, since RAM has no such column (C-15). */
+static inline bool is_missing_column(unsigned byte)
+{
+    return byte >= COLUMN_STOP && byte < COLUMN_SETS;
+}
+
 /* ---- random states ---- */
 
-/* A chip record that number 2 lets pass; its column is mostly one that has RAM. */
+/* A chip record that number 2 lets pass; column and saved column are now and then the one where counting stops. */
 static inline void draw_chip(struct rng *g, uint8_t *chip)
 {
     for (size_t i = 0; i < CHIP; i++)
         chip[i] = (uint8_t)below(g, field_limit[i] + 1u);
-    if (!one_in(g, 4))
-        chip[PEDRALUME_COLUMN] = (uint8_t)below(g, 80);
+    for (unsigned field = PEDRALUME_COLUMN; field <= PEDRALUME_SAVED_COLUMN; field++)
+        if (one_in(g, 8))
+            chip[field] = COLUMN_STOP;
     if (!one_in(g, 4))
         chip[PEDRALUME_RMW] = 0;
     if (chip[PEDRALUME_RMW] == 0)
@@ -234,7 +249,7 @@ static inline void put_column_or_end(struct trace *t, struct rng *g, unsigned ch
         put_command(t, chip, 0xEE);
         *rmw = false;
     } else {
-        put_command(t, chip, one_in(g, 10) ? below(g, 128) : below(g, 80));
+        put_command(t, chip, one_in(g, 10) ? COLUMN_STOP - 1 : below(g, COLUMN_STOP));
     }
 }
 

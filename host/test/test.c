@@ -1,6 +1,6 @@
 /*
- * Walks the table of numbers and the checked examples of document 01, and the feed and the stale latch
- * of document 02, through the archive. What is expected is written out here from the documents, not
+ * Walks the table of numbers and the checked examples of document 01, and the feed, the stale latch and
+ * the refused columns of document 02, through the archive. What is expected is written out here from the documents, not
  * taken from any implementation; what a feed leaves is told by the archive's replays of whole records.
  */
 #define PROGRAM "test"
@@ -143,21 +143,20 @@ static void test_listing(void)
 
 /* ---- checked examples that replay alone can show ---- */
 
-static void test_column_stop(void)
+static void test_column_examples(void)
 {
     static struct rig r, before;
     fresh_rig(&r);                                                  /* P1 */
-    command(&r, 0, 79);
+    CHECK_ANSWER(command(&r, 0, 79), 0, 1, 0, 0);
     CHECK_ANSWER(write_data(&r, 0, 0xA5), 0, 1, 0, 0);
     CHECK(r.ram[79] == 0xA5 && r.chips[PEDRALUME_COLUMN] == 80);
     before = r;                                                     /* P2 */
     CHECK_ANSWER(write_data(&r, 0, 0x3C), 0, 1, 0, 0);
     CHECK(same_rig(&r, &before));
-    fresh_rig(&r);                                                  /* P3 */
-    command(&r, 0, 100);
+    fresh_rig(&r);                                                  /* P3, by C-15 */
     before = r;
-    CHECK_ANSWER(write_data(&r, 0, 0xFF), 0, 1, 0, 0);
-    CHECK(same_rig(&r, &before) && r.chips[PEDRALUME_COLUMN] == 100);
+    CHECK_ANSWER(command(&r, 0, 100), 14, 0, 0, 0);
+    CHECK(same_rig(&r, &before));
 }
 
 static void test_mode_examples(void)
@@ -207,7 +206,7 @@ static void test_byte_examples(void)
 
 /* ---- every cycle ---- */
 
-/* Does the command to the record as the table of commands and C-12 say; gives the number. */
+/* Does the command to the record as the table of commands, C-12 and C-15 say; gives the number. */
 static unsigned expect_command(uint8_t *chip, unsigned byte)
 {
     static const struct { uint8_t first, last, field; } set[] = {
@@ -220,7 +219,9 @@ static unsigned expect_command(uint8_t *chip, unsigned byte)
             chip[set[i].field] = (uint8_t)(byte - set[i].first);
     if (byte <= 0x7F && rmw)
         return 8;
-    if (byte <= 0x7F) {
+    if (byte >= 0x50 && byte <= 0x7F)
+        return 14;
+    if (byte <= 0x4F) {
         chip[PEDRALUME_COLUMN] = (uint8_t)byte;
         chip[PEDRALUME_LATCH_MARK] = 0;
     } else if (byte >= 0xB8 && byte <= 0xBB) {
@@ -237,10 +238,11 @@ static unsigned expect_command(uint8_t *chip, unsigned byte)
     return is_command(byte) ? 0 : 7;
 }
 
+/* Of the 175 commands either chip takes 127, in read-modify-write 47. */
 static void test_all_commands(void)
 {
     static struct rig r, want;
-    unsigned commands = 0;
+    unsigned commands = 0, taken[2] = { 0, 0 };
     for (unsigned byte = 0; byte < 256; byte++) {
         commands += is_command(byte);
         for (unsigned way = 0; way < 4; way++) {
@@ -252,9 +254,10 @@ static void test_all_commands(void)
                 want.answers[0] = want.answers[1] = 0;
             CHECK_ANSWER(command(&r, chip, byte), number, number == 0, 0, 0);
             CHECK(same_rig(&r, &want));
+            taken[way / 2] += number == 0;
         }
     }
-    CHECK(commands == 175);
+    CHECK(commands == 175 && taken[0] == 2 * 127 && taken[1] == 2 * 47);
 }
 
 /* A busy rig with this cell addressed, latch fresh or stale. */
@@ -268,14 +271,14 @@ static uint8_t *address(struct rig *r, unsigned chip, unsigned page, unsigned co
     return c;
 }
 
-/* Every data write leaves the latch stale with its byte (C-12). */
+/* Every data write leaves the latch stale with its byte (C-12). Counting reaches the column stop and stays there. */
 static void test_write_at(unsigned chip, unsigned page, unsigned column, bool rmw, bool fresh)
 {
     static struct rig r, want;
     address(&r, chip, page, column, rmw, fresh);
     uint8_t *c = address(&want, chip, page, column, rmw, false);
     want.answers[0] = want.answers[1] = 0;
-    if (column < 80) {
+    if (column < COLUMN_STOP) {
         want.ram[HALF_RAM * chip + 80 * page + column] = 0x96;
         c[PEDRALUME_COLUMN] = (uint8_t)(column + 1);
     }
@@ -290,8 +293,8 @@ static void test_read_at(unsigned chip, unsigned page, unsigned column, bool rmw
     uint8_t *c = address(&want, chip, page, column, rmw, fresh);
     want.answers[0] = fresh ? 1 : 2;
     want.answers[1] = 0x5C;
-    c[PEDRALUME_LATCH_MARK] = column < 80;
-    if (column < 80) {
+    c[PEDRALUME_LATCH_MARK] = column < COLUMN_STOP;
+    if (column < COLUMN_STOP) {
         c[PEDRALUME_LATCH_BYTE] = want.ram[HALF_RAM * chip + 80 * page + column];
         c[PEDRALUME_COLUMN] = (uint8_t)(column + !rmw);
     }
@@ -303,7 +306,7 @@ static void test_all_cells(void)
 {
     for (unsigned way = 0; way < 8; way++)
         for (unsigned page = 0; page < 4; page++)
-            for (unsigned column = 0; column < 128; column += way == 0 || column >= 75 ? 1 : 5) {
+            for (unsigned column = 0; column <= COLUMN_STOP; column += way == 0 || column >= 75 ? 1 : 5) {
                 test_write_at(way & 1, page, column, way & 2, way & 4);
                 test_read_at(way & 1, page, column, way & 2, way & 4);
             }
@@ -323,6 +326,46 @@ static void test_all_status(void)
         CHECK_ANSWER(replay_record(&r, PEDRALUME_STATUS_READ, chip, want.answers[1], 0), 0, 1, 1, 0);
         CHECK(same_rig(&r, &want));
     }
+}
+
+/* ---- columns that RAM has not (C-15) ---- */
+
+/* Refused, and nothing changes: the latch, which was fresh, still is, as the next data read tells. */
+static void test_missing_column(unsigned chip, unsigned byte, bool rmw)
+{
+    static struct rig r, before;
+    busy_rig(&r, rmw);
+    before = r;
+    CHECK_ANSWER(command(&r, chip, byte), rmw ? 8 : 14, 0, 0, 0);
+    CHECK(same_rig(&r, &before));
+    CHECK(read_data(&r, chip) == 0x15C);
+}
+
+static void test_missing_columns(void)
+{
+    for (unsigned way = 0; way < 4; way++)
+        for (unsigned byte = 0x50; byte <= 0x7F; byte++)
+            test_missing_column(way & 1, byte, way & 2);
+}
+
+/* To one chip, each with the column and the saved column after it: counting reaches 80 and stays, and E0 and EE keep it. */
+static const struct { uint8_t lines, data, column, saved; } counting[] = {
+    { 2, 79, 79, 0 },    { 3, 0x11, 80, 0 },  { 3, 0x22, 80, 0 },  { 5, 0x00, 80, 0 },
+    { 2, 79, 79, 0 },    { 5, 0x00, 80, 0 },  { 5, 0x11, 80, 0 },  { 3, 0x33, 80, 0 },
+    { 2, 0xE0, 80, 80 }, { 3, 0x44, 80, 80 }, { 5, 0x00, 80, 80 }, { 2, 0xE0, 80, 80 }, { 2, 0xEE, 80, 0 }, { 2, 0xEE, 80, 0 },
+    { 2, 78, 78, 0 },    { 2, 0xE0, 78, 78 }, { 3, 0x55, 79, 78 }, { 3, 0x66, 80, 78 }, { 3, 0x77, 80, 78 }, { 2, 0xEE, 78, 0 },
+};
+
+static void test_column_stop(unsigned chip)
+{
+    static struct rig r;
+    const uint8_t *c = r.chips + CHIP * chip, *ram = r.ram + HALF_RAM * chip;
+    fresh_rig(&r);
+    for (size_t i = 0; i < sizeof counting / sizeof counting[0]; i++) {
+        CHECK(pedralume_number(replay_record(&r, counting[i].lines, chip, counting[i].data, 0)) == 0);
+        CHECK(c[PEDRALUME_COLUMN] == counting[i].column && c[PEDRALUME_SAVED_COLUMN] == counting[i].saved);
+    }
+    CHECK(ram[78] == 0x55 && ram[79] == 0x66 && ram[80] == 0);
 }
 
 /* ---- a cursor's cell read back (C-12) ---- */
@@ -370,7 +413,7 @@ static void test_cursor(void)
     CHECK(same_rig(&r, &want));
 }
 
-/* ---- numbers 4 to 8 ---- */
+/* ---- numbers 4 to 8 and 14 ---- */
 
 /* Ten records: four reads compared, two of them differing; leaves the left chip in read-modify-write. */
 static void put_prelude(struct trace *t)
@@ -392,20 +435,26 @@ struct bad_record {
 };
 
 /*
- * Sent after the prelude, which leaves the left latch fresh, and at once to a busy rig, where both are.
- * Those with several faults show which number comes first.
+ * Sent after the prelude, which leaves the left latch fresh, and at once to a busy rig, where both are; the
+ * left chip is then in read-modify-write, the right one not. Those with several faults show which number
+ * comes first.
  */
 static const struct bad_record bad_records[] = {
     { 0x0A, 0, 0xAF, 0, 4 }, { 0x12, 0, 0xAF, 0, 4 }, { 0x22, 0, 0xAF, 0, 4 }, { 0x42, 0, 0xAF, 0, 4 },
     { 0x82, 0, 0xAF, 0, 4 }, { 2, 0, 0xAF, 1, 4 },    { 3, 1, 0, 0x80, 4 },    { 4, 0, 0, 0xFF, 4 },
     { 8, 2, 0, 0, 4 },       { 0xFF, 0xFF, 0xFF, 0xFF, 4 },  { 2, 0, 0x80, 1, 4 },    { 0, 2, 0x05, 1, 4 },
     { 2, 0, 0xB9, 1, 4 },    { 0x0A, 0, 0xB9, 0, 4 }, { 3, 0, 0x96, 1, 4 },    { 0x0B, 0, 0x96, 0, 4 },
+    { 2, 1, 0x64, 1, 4 },    { 0x0A, 1, 0x64, 0, 4 },
     { 2, 2, 0xAF, 0, 5 },    { 3, 255, 0, 0, 5 },     { 4, 128, 0, 0, 5 },     { 5, 3, 0, 0, 5 },
-    { 0, 2, 0, 0, 5 },       { 7, 2, 0, 0, 5 },       { 2, 2, 0x80, 0, 5 },    { 2, 2, 0xB9, 0, 5 },
+    { 0, 2, 0, 0, 5 },       { 7, 2, 0, 0, 5 },       { 2, 2, 0x80, 0, 5 },    { 2, 2, 0xB9, 0, 5 },    { 2, 2, 0x64, 0, 5 },
     { 0, 0, 0xAF, 0, 6 },    { 1, 1, 0, 0, 6 },       { 6, 0, 0, 0, 6 },       { 7, 1, 0, 0, 6 },
     { 0, 0, 0x80, 0, 6 },    { 0, 0, 0x05, 0, 6 },    { 6, 0, 0x05, 0, 6 },    { 6, 0, 0xB9, 0, 6 },
+    { 0, 1, 0x64, 0, 6 },    { 6, 1, 0x64, 0, 6 },
     { 2, 0, 0x80, 0, 7 },    { 2, 1, 0xFF, 0, 7 },    { 2, 0, 0xA2, 0, 7 },    { 2, 1, 0xE1, 0, 7 },    { 2, 0, 0xBC, 0, 7 },
-    { 2, 0, 0x00, 0, 8 },    { 2, 0, 0x05, 0, 8 },    { 2, 0, 0x7F, 0, 8 },
+    { 2, 1, 0x80, 0, 7 },
+    { 2, 0, 0x00, 0, 8 },    { 2, 0, 0x05, 0, 8 },    { 2, 0, 0x4F, 0, 8 },    { 2, 0, 0x50, 0, 8 },    { 2, 0, 0x64, 0, 8 },
+    { 2, 0, 0x7F, 0, 8 },
+    { 2, 1, 0x50, 0, 14 },   { 2, 1, 0x51, 0, 14 },   { 2, 1, 0x64, 0, 14 },   { 2, 1, 0x7F, 0, 14 },
 };
 
 static void put_bad(struct trace *t, const struct bad_record *bad)
@@ -433,6 +482,7 @@ static void test_refused_at_once(const struct bad_record *bad)
 {
     static struct rig r, want;
     busy_rig(&r, true);
+    r.chips[CHIP + PEDRALUME_RMW] = r.chips[CHIP + PEDRALUME_SAVED_COLUMN] = 0;
     want = r;
     CHECK_ANSWER(replay_record(&r, bad->lines, bad->chip, bad->data, bad->last), bad->number, 0, 0, 0);
     CHECK(same_rig(&r, &want));
@@ -457,6 +507,10 @@ static void test_first_refusal_wins(void)
     put_record(&t, 8, 0, 0, 0);
     fresh_rig(&r);
     CHECK_ANSWER(replay(&r, &t), 8, 1, 0, 0);
+    t.bytes[RECORD + 1] = 1;
+    t.bytes[RECORD + 2] = 100;
+    fresh_rig(&r);
+    CHECK_ANSWER(replay(&r, &t), 14, 1, 0, 0);
 }
 
 /* ---- numbers 1 to 3 ---- */
@@ -549,8 +603,19 @@ static void test_bad_chips(void)
         r.chips[CHIP * chip + PEDRALUME_SAVED_COLUMN] = 1;
         test_stays(&r, t, len, 2, chip);
     }
-    r.chips[PEDRALUME_COLUMN] = 128;                                /* both: left before right */
+    r.chips[PEDRALUME_COLUMN] = COLUMN_STOP + 1;                    /* both: left before right */
     test_stays(&r, t, len, 2, 0);
+}
+
+static void test_given_columns(void)
+{
+    static const struct trace empty = { 0, { 0 } };
+    static struct rig r;
+    for (unsigned way = 0; way < COLUMN_WAYS; way++) {
+        fresh_rig(&r);
+        struct given_column c = put_column(r.chips, way);
+        test_stays(&r, &empty, (struct lengths){ CHIPS, RAM, 0, 0 }, c.number, c.place);
+    }
 }
 
 static void test_cut_traces(void)
@@ -760,6 +825,19 @@ static void test_frame_stays(const struct panel *given, size_t chips, size_t ram
     CHECK(memcmp(&p, given, sizeof p) == 0);
 }
 
+static void test_frame_columns(void)
+{
+    static struct panel p;
+    for (unsigned way = 0; way < COLUMN_WAYS; way++) {
+        lit_panel(&p);
+        struct given_column c = put_column(p.chips, way);
+        if (c.number == 0)
+            test_frame_of(&p);
+        else
+            test_frame_stays(&p, CHIPS, RAM, FRAME, c.number, c.place);
+    }
+}
+
 static void test_frame_refusals(void)
 {
     static const size_t chips[] = { 0, 12, 23, 25 }, ram[] = { 0, 320, 639, 641 }, frame[] = { 0, 244, 487, 489 };
@@ -877,12 +955,12 @@ static void test_repaints(void)
 static void test_repaint_idle_fields(void)
 {
     static struct easel e;
-    for (unsigned column = 0; column < 128; column++) {
+    for (unsigned column = 0; column <= COLUMN_STOP; column++) {
         ready_easel_by(&e, column % 16);
         for (unsigned chip = 0; chip < 2; chip++) {
             uint8_t *c = e.chips + CHIP * chip;
             c[PEDRALUME_PAGE] = (uint8_t)((column / 16 + chip) % 4);
-            c[PEDRALUME_COLUMN] = (uint8_t)(chip == 0 ? column : 127 - column);
+            c[PEDRALUME_COLUMN] = (uint8_t)(chip == 0 ? column : COLUMN_STOP - column);
             c[PEDRALUME_LATCH_MARK] = (column + chip) % 2;
             c[PEDRALUME_LATCH_BYTE] = (uint8_t)(column * 2 + 1 - chip);
         }
@@ -939,7 +1017,8 @@ struct unready {
 
 /* In the order of their numbers. */
 static const struct unready unready[] = {
-    { PEDRALUME_PAGE, 4, 2 },        { PEDRALUME_SAVED_COLUMN, 128, 2 }, { PEDRALUME_ZERO, 1, 2 },
+    { PEDRALUME_PAGE, 4, 2 },        { PEDRALUME_ZERO, 1, 2 },
+    { PEDRALUME_COLUMN, COLUMN_STOP + 1, 2 },          { PEDRALUME_SAVED_COLUMN, COLUMN_STOP + 1, 2 },
     { PEDRALUME_DISPLAY, 0, 9 },     { PEDRALUME_STATIC, 1, 9 },
     { PEDRALUME_DUTY, 1, 10 },
     { PEDRALUME_START_LINE, 1, 11 }, { PEDRALUME_START_LINE, 31, 11 },
@@ -975,6 +1054,22 @@ static void test_unready_chips(void)
                 test_unready(&both, here < there ? here : there, chip);
             }
         }
+}
+
+/* A saved column that passes is refused for the mode. */
+static void test_repaint_columns(void)
+{
+    static struct easel e;
+    for (unsigned way = 0; way < COLUMN_WAYS; way++) {
+        ready_easel(&e);
+        struct given_column c = put_column(e.chips, way);
+        if (c.number != 0)
+            test_unready(&e, c.number, c.place);
+        else if (c.field == PEDRALUME_SAVED_COLUMN)
+            test_unready(&e, 12, c.chip);
+        else
+            test_repaint_done(&e, REPAINT);
+    }
 }
 
 /* A saved column is number 2 with the mode off and number 12 with it on. */
@@ -1208,6 +1303,16 @@ static void test_opens(void)
     test_open(r.chips, 2, 1);
 }
 
+static void test_open_columns(void)
+{
+    uint8_t chips[CHIPS];
+    for (unsigned way = 0; way < COLUMN_WAYS; way++) {
+        fresh_chips(chips);
+        struct given_column c = put_column(chips, way);
+        test_open(chips, c.number, c.place);
+    }
+}
+
 static void test_open_lengths(void)
 {
     static const struct { size_t feed, chips; } len[] = {
@@ -1227,12 +1332,14 @@ static void test_open_lengths(void)
 /* A feed whose opening was refused stays stopped with that. */
 static void test_open_refused(void)
 {
+    static const struct { uint8_t field, value; } bad[] = { { PEDRALUME_PAGE, 4 }, { PEDRALUME_COLUMN, COLUMN_STOP + 1 } };
     static struct intake n;
     uint8_t chips[CHIPS];
-    for (unsigned chip = 0; chip < 2; chip++) {
+    for (unsigned way = 0; way < 4; way++) {
+        unsigned chip = way & 1;
         open_intake(&n);
         fresh_chips(chips);
-        chips[CHIP * chip + PEDRALUME_PAGE] = 4;
+        chips[CHIP * chip + bad[way >> 1].field] = bad[way >> 1].value;
         CHECK_FEED(pedralume_feed_open(n.feed, FEED, chips, CHIPS), 2, chip);
         check_stopped(&n, 2, chip);
     }
@@ -1316,6 +1423,35 @@ static void test_feed_refused(void)
     }
 }
 
+/*
+ * A column that RAM has not, in two parts, cut everywhere: the latch stays fresh, as a feed tells that is
+ * opened with the chips of the one that is stopped.
+ */
+static void test_feed_missing_column(unsigned chip)
+{
+    static struct trace t;
+    static struct intake n;
+    uint8_t chips[CHIPS];
+    t.len = 0;
+    put_command(&t, chip, COLUMN_STOP - 1);
+    put_read(&t, chip, 0);                                          /* loads 5A and comes to the column stop */
+    put_command(&t, chip, COLUMN_STOP);
+    put_read(&t, chip, 0x5A);
+    for (size_t cut = 0; cut <= 3 * RECORD; cut++) {
+        open_intake(&n);
+        n.ram[HALF_RAM * chip + COLUMN_STOP - 1] = 0x5A;
+        take(&n, t.bytes, cut);
+        CHECK_FEED(take(&n, t.bytes + cut, t.len - cut), 14, 2);
+        check_stopped(&n, 14, 2);
+        CHECK(pedralume_feed_records(n.feed) == 2 && pedralume_feed_field(n.feed, PEDRALUME_FEED_PLACE) == 2);
+        CHECK(n.feed[PEDRALUME_FEED_STOPPED] == 1 && n.feed[PEDRALUME_FEED_NUMBER] == PEDRALUME_NO_SUCH_COLUMN);
+        memcpy(chips, n.feed, CHIPS);
+        CHECK_FEED(pedralume_feed_open(n.feed, FEED, chips, CHIPS), 0, 0);
+        CHECK_FEED(take(&n, t.bytes + 3 * RECORD, RECORD), 0, 1);
+        CHECK(n.answers[0] == PEDRALUME_KIND_FRESH && n.answers[1] == 0x5A && pedralume_feed_differing(n.feed) == 0);
+    }
+}
+
 /* ---- feed: numbers 1, 13 and 2, in this order, and what a refused call leaves ---- */
 
 /* An intake that has taken ten records and three bytes of the eleventh, a data write of A5. */
@@ -1363,6 +1499,7 @@ static const struct bad_byte {
     uint8_t at, value, place;
 } bad_bytes[] = {
     { 0, 2, 0 },   { 5, 4, 0 },    { 6, 32, 0 },  { 11, 1, 0 },  { 12, 2, 1 },  { 19, 128, 1 },  { 23, 1, 1 },
+    { 7, 81, 0 },  { 7, 127, 0 },  { 8, 81, 0 },  { 8, 127, 0 },  { 8, 128, 0 }, { 19, 81, 1 },  { 19, 127, 1 },
     { 24, 4, 3 },  { 24, 255, 3 }, { 28, 2, 3 },  { 28, 255, 3 }, { 29, 1, 3 }, { 29, 255, 3 },
     { 30, 1, 3 },  { 30, 255, 3 }, { 31, 1, 3 },  { 31, 128, 3 }, { 32, 1, 3 }, { 33, 1, 3 },    { 34, 1, 3 },
     { 35, 128, 3 }, { 40, 11, 3 }, { 41, 1, 3 },  { 43, 1, 3 },   { 44, 5, 3 }, { 45, 1, 3 },    { 47, 1, 3 },
@@ -1424,6 +1561,21 @@ static void test_bad_feed_chips(void)
     n.feed[PEDRALUME_RMW] = 0;
     n.feed[PEDRALUME_SAVED_COLUMN] = 1;
     check_bad_feed(&n, &t, 0);
+}
+
+/* In a feed record, each of its columns; a part of length 0 is taken where they pass. */
+static void test_feed_columns(void)
+{
+    static struct intake good, n;
+    static struct trace t;
+    busy_intake(&good, &t);
+    for (unsigned way = 0; way < COLUMN_WAYS; way++) {
+        n = good;
+        struct given_column c = put_column(n.feed, way);
+        PART_STAYS(&n, t.bytes, ((struct part){ FEED, RAM, 0, ANSWERS }), c.number, c.number == 0 ? 10 : c.place);
+        if (c.number != 0)
+            CLOSE_STAYS(&n, FEED, c.number, c.place);
+    }
 }
 
 /* A kept count over 3 counts as it stands for room and for number 13, before number 2. */
@@ -1622,15 +1774,19 @@ static void test_feeds(void)
 {
     test_feed_readers();
     test_opens();
+    test_open_columns();
     test_open_lengths();
     test_open_refused();
     test_feed_cuts();
     test_feed_steps();
     test_feed_cursor();
     test_feed_refused();
+    test_feed_missing_column(0);
+    test_feed_missing_column(1);
     test_part_lengths();
     test_bad_feeds();
     test_bad_feed_chips();
+    test_feed_columns();
     test_kept_count_over();
     test_most_records();
     test_late_refusal();
@@ -1647,17 +1803,21 @@ static void test_feeds(void)
 static void test_replays(void)
 {
     test_listing();
-    test_column_stop();
+    test_column_examples();
     test_mode_examples();
     test_byte_examples();
     test_all_commands();
     test_all_cells();
     test_all_status();
+    test_missing_columns();
+    test_column_stop(0);
+    test_column_stop(1);
     test_cursor();
     test_refused_records();
     test_first_refusal_wins();
     test_bad_lengths();
     test_bad_chips();
+    test_given_columns();
     test_cut_traces();
     test_empty_trace();
     test_exact_answers();
@@ -1673,6 +1833,7 @@ int main(void)
     test_all_frames();
     test_frame_examples();
     test_frame_refusals();
+    test_frame_columns();
 #endif
 #ifdef WITH_REPAINT
     test_repaints();
@@ -1680,6 +1841,7 @@ int main(void)
     test_repaint_example();
     test_repaint_lengths();
     test_repaint_bad_fields();
+    test_repaint_columns();
     test_repaint_saved_column();
     test_unready_chips();
     test_repaint_start_lines();

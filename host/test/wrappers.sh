@@ -88,6 +88,8 @@ begun '\002\002\000\000' | refused "5 at record 9: a chip over 1"
 begun '\006\000\000\000' | refused "6 at record 9: RD and WR equal"
 begun '\002\000\200\000' | refused "7 at record 9: a byte that is no command"
 begun '\002\000\340\000' | refused "8 at record 11: a column set while read-modify-write is on"
+begun '\002\000\144\000' | refused "14 at record 9: a column set over 79 (4F hex), the last column of RAM"
+begun '\002\000\340\000\002\000\144\000' | refused "8 at record 10: a column set while read-modify-write is on"
 begun '\002' | refused "3: a length that is no multiple of 4 (whole records: 18)"
 status_reads() { awk 'BEGIN { for (i = 0; i < 16385; i++) printf "abcb" }' | tr abc '\004\000\140' | head -c "$1"; } # BYTES
 status_reads 65537 | refused "1: a trace over 65,536 bytes"

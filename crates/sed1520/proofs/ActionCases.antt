@@ -1,17 +1,17 @@
 -- The actions of a chip by their cases, as equations.
-use Prim.Native.Nat.{ℕ, _+_, _<_, _≤_, zero-le}
+use Prim.Native.Nat.{ℕ, _+_, _<_, _≤_}
 use mathlib.Core.Path.{_≡_, refl}
-use mathlib.Core.Bool.{true, false, and-false}
+use mathlib.Core.Bool.{true, false}
 use mathlib.Core.List.{List}
 use mathlib.Core.Option.{none, some}
-use lib.Dec.{ltb, leb}
+use lib.Dec.{ltb}
 use lib.ListN.{getD, set}
-use borrow.Author.Tests.{lt-ltb, le-ltb, le-leb}
+use borrow.Author.Tests.{lt-ltb, le-ltb, ne-eqb}
 use Rattle.basics.proofs.Tests.{when}
 use Rattle.sed1520.specs.Chip.{stale, staled, withColumn, withLatch}
 use Rattle.sed1520.specs.Command.{decodeOf, toldCommand}
 use Rattle.sed1520.specs.Memory.{ramIndex}
-use Rattle.sed1520.specs.Cycle.{Outcome, outcome, answered, execute, columnLocked, commandWrite, dataWrite, afterRead}
+use Rattle.sed1520.specs.Cycle.{Outcome, outcome, refusal, answered, execute, columnRefusal, commandWrite, dataWrite, afterRead}
 use Rattle.sed1520.specs.declared.registers.Chip.{Chip}
 use Rattle.sed1520.specs.declared.registers.ReadLatch.the-variants.{Fresh}
 use Rattle.sed1520.specs.declared.commands.Command.{Command}
@@ -26,17 +26,15 @@ pub no-command : (d : Decoded) (b at : ℕ) → toldCommand d ≡ decodeOf b →
 no-command d b at e k = rw (← e, k)
 
 module _ (b : ℕ) (c : Chip) where
-  pub command-executed : (m : Command) → decodeOf b .value ≡ some m → columnLocked b c ≡ false
+  pub command-executed : (m : Command) → decodeOf b .value ≡ some m → columnRefusal b (c .modify) ≡ 0
       → commandWrite b c ≡ answered 0 0 (execute (m .kind) (m .argument) c)
   unfolding commandWrite
   command-executed m known free = rw (known, free)
 
-  -- only a byte below 128 sets the column
-  pub locked-below : b < 128 → columnLocked b c ≡ c .modify
-  locked-below h = rw (le-leb 0 b zero-le, lt-ltb b 128 h)
-
-  pub unlocked-above : 128 ≤ b → columnLocked b c ≡ false
-  unlocked-above h = rw (le-ltb b 128 h, and-false (leb 0 b))
+  pub command-refused : (m : Command) → decodeOf b .value ≡ some m → (columnRefusal b (c .modify) ≡ 0 → ⊥)
+      → commandWrite b c ≡ refusal (columnRefusal b (c .modify)) c
+  unfolding commandWrite
+  command-refused m known held = rw known (rw (ne-eqb (columnRefusal b (c .modify)) 0 held))
 
 module _ (c : Chip) (ram : List ℕ) where
   -- every data write is done, and leaves the latch stale with its byte

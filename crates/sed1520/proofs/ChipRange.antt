@@ -1,11 +1,11 @@
 -- What `inRange` says, field by field, and which chips it lets pass.
-use Prim.Native.Nat.{_<_}
+use Prim.Native.Nat.{_<_, _≤_}
 use mathlib.Core.Path.{_≡_}
 use mathlib.Core.Bool.{true, false, _||_}
 use mathlib.Core.Logic.{⊎-elim}
-use lib.Dec.{ltb, eqb}
-use borrow.Author.Tests.{lt-ltb, ltb-true}
-use Rattle.sed1520.specs.Chip.{inRange}
+use lib.Dec.{ltb, leb, eqb}
+use borrow.Author.Tests.{lt-ltb, ltb-true, le-leb, leb-true}
+use Rattle.sed1520.specs.Chip.{columnStop, inRange}
 use Rattle.sed1520.specs.declared.registers.Chip.{Chip}
 use Rattle.basics.proofs.Tests.{tested, both}
 
@@ -13,15 +13,15 @@ use Rattle.basics.proofs.Tests.{tested, both}
 pub record Ranges (c : Chip) : Type 0 where
   pub page : c .page < 4
   pub line : c .«start_line» < 32
-  pub column : c .column < 128
-  pub saved : c .«saved_column» < 128
+  pub column : c .column ≤ columnStop
+  pub saved : c .«saved_column» ≤ columnStop
   pub idle : (c .modify || eqb (c .«saved_column») 0) ≡ true
 
 -- with the four numbers in range, what is left is the saved column's rule
-pub in-range-rest : (c : Chip) → c .page < 4 → c .«start_line» < 32 → c .column < 128 → c .«saved_column» < 128
+pub in-range-rest : (c : Chip) → c .page < 4 → c .«start_line» < 32 → c .column ≤ columnStop → c .«saved_column» ≤ columnStop
     → inRange c ≡ (c .modify || eqb (c .«saved_column») 0)
 unfolding inRange
-in-range-rest c p l k s = simp lt-ltb
+in-range-rest c p l k s = simp (lt-ltb, le-leb)
 
 pub in-range : (c : Chip) → Ranges c → inRange c ≡ true
 in-range c r = rw (in-range-rest c (r .page) (r .line) (r .column) (r .saved)) (r .idle)
@@ -31,9 +31,9 @@ unfolding inRange
 ranges c e =
     let p = both (ltb (c .page) 4) _ e in
     let l = both (ltb (c .«start_line») 32) _ (p .1) in
-    let k = both (ltb (c .column) 128) _ (l .1) in
-    let s = both (ltb (c .«saved_column») 128) _ (k .1) in
-    search ltb-true
+    let k = both (leb (c .column) columnStop) _ (l .1) in
+    let s = both (leb (c .«saved_column») columnStop) _ (k .1) in
+    search (ltb-true, leb-true)
 
 pub out-of-range : (c : Chip) → (Ranges c → ⊥) → inRange c ≡ false
 out-of-range c out = ⊎-elim (λ e. absurd (out (ranges c e))) (λ e. e) (tested (inRange c))

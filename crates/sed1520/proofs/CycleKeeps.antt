@@ -1,5 +1,5 @@
 -- What every cycle keeps, through each way that it can end.
-use Prim.Native.Nat.{ℕ, _+_, _<_}
+use Prim.Native.Nat.{ℕ, _+_, _≤_}
 use native.Mathlib.Omega.{arith}
 use mathlib.Core.Path.{_≡_, refl}
 use mathlib.Core.List.{List}
@@ -8,7 +8,8 @@ use lib.ListN.{length, length-set}
 use borrow.Author.Needs.{needs}
 use borrow.Author.Tests.{ltb-true}
 use Rattle.basics.specs.Choice.{if}
-use Rattle.sed1520.specs.Command.{count}
+use Rattle.sed1520.specs.Chip.{columnStop}
+use Rattle.sed1520.specs.Command.{first}
 use Rattle.sed1520.specs.Memory.{ramIndex}
 use Rattle.sed1520.specs.Cycle.{outcome, refusal, answered, execute, dataWrite, afterRead, dataRead, cycleOf}
 use Rattle.sed1520.specs.Promises.{Keeps, EveryCycleKeeps}
@@ -17,16 +18,17 @@ use Rattle.sed1520.specs.declared.commands.Kind.{Kind}
 use Rattle.sed1520.specs.declared.commands.Kind.the-variants.{Display, StartLine, Page, Column, Adc, Static, Duty, Modify, End, Reset}
 use Rattle.sed1520.specs.declared.bus.Record.{Record}
 use Rattle.sed1520.proofs.ChipRange.{Ranges, ranges, in-range}
-use Rattle.sed1520.proofs.EachWay.{each-cycle}
+use Rattle.sed1520.proofs.ColumnRefusals.{taken-column}
+use Rattle.sed1520.proofs.EachWay.{Taken, each-cycle}
 use Rattle.basics.proofs.Tests.{when}
 
 -- the registers after an accepted command are in range
-execute-ranges : (k : Kind) (a : ℕ) (c : Chip) → a < count k → Ranges c → Ranges (execute k a c)
+execute-ranges : (k : Kind) (a : ℕ) (c : Chip) → Taken k a c → Ranges c → Ranges (execute k a c)
 unfolding execute
 execute-ranges Display a c h r = search needs
 execute-ranges StartLine a c h r = search needs
 execute-ranges Page a c h r = search needs
-execute-ranges Column a c h r = search needs
+execute-ranges Column a c h r = let column = taken-column (first Column + a) (c .modify) (omega (arith, h .argument)) (h .column) in search needs
 execute-ranges Adc a c h r = search needs
 execute-ranges Static a c h r = search needs
 execute-ranges Duty a c h r = search needs
@@ -49,7 +51,7 @@ module _ (c : Chip) (ram : List ℕ) where
   after-read-ranges r =
       when Ranges (ltb (c .column) 80)
       (λ below. let h = ltb-true (c .column) 80 below in
-      let counted : if (c .modify) (c .column) (c .column + 1) < 128 = when (λ n. n < 128) (c .modify) (λ _. r .column) (λ _. omega arith) in
+      let counted : if (c .modify) (c .column) (c .column + 1) ≤ 80 = when (λ n. n ≤ 80) (c .modify) (λ _. r .column) (λ _. omega arith) in
       search needs)
       (λ _. search needs)
 

@@ -13,7 +13,8 @@ chip-examples =
     record {
       p1 = refl;
       p2 = refl;
-      p3 = refl;
+      p3 = (refl, refl);
+      p3-ends = refl;
       p4-fresh = refl;
       p4-on-reverse = refl;
       p6-counted = refl;

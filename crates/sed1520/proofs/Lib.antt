@@ -2,10 +2,14 @@ pub mod ActionCases
 pub mod BytesStay
 pub mod Cells
 pub mod ChipRange
+pub mod ColumnRange
+pub mod ColumnRefusals
+pub mod ColumnSets
 pub mod CommandBytes
 pub mod CycleKeeps
 pub mod CycleLaws
 pub mod CycleTouches
+pub mod EachNumber
 pub mod EachWay
 pub mod Examples
 pub mod Flags

@@ -37,7 +37,7 @@ there m b e =
     (tested (ltb (m .argument) (count (m .kind))))
 
 -- a command's argument is in range, and says where its byte lies in the range of its kind
-abbrev Placed : Command → ℕ → Type 0
+abbrev pub Placed : Command → ℕ → Type 0
 Placed m b = (m .argument < count (m .kind)) × (first (m .kind) + m .argument ≡ b)
 
 -- so it is with the command that a byte is told as

@@ -13,7 +13,7 @@ use Rattle.basics.specs.Choice.{if}
 use Rattle.sed1520.specs.Chip.{inRange}
 use Rattle.sed1520.specs.ChipRecord.{chipBytes, registersIn, flagsRight, recordRight, chipIn, panelIn, RecordsFit}
 use Rattle.sed1520.specs.Command.{decodeOf}
-use Rattle.sed1520.specs.Cycle.{busRefusal, Outcome, columnLocked, executed, commandWrite, dataWrite, afterRead, dataRead, actionOf, stepOf}
+use Rattle.sed1520.specs.Cycle.{busRefusal, Outcome, columnRefusal, executed, commandWrite, dataWrite, afterRead, dataRead, actionOf, stepOf}
 use Rattle.sed1520.specs.Panel.{panelOf, chipAt, put, outcomeOf, stepped}
 use Rattle.sed1520.specs.Promises.{EveryRecordStep}
 use Rattle.sed1520.specs.RecordStep.{bare, Acted, acted, writeBytes, readBytes, commandBytes, actionOn}
@@ -53,7 +53,7 @@ module _ (c : Chip) (ram : List ℕ) where
       told : (o : Option Command) → commandBytes (chipBytes c) (executed b o c) ≡ chipBytes (executed b o c .chip)
       told none = refl
       told (some m) =
-          when (λ (a : Answer). commandBytes (chipBytes c) a ≡ chipBytes (a .chip)) (columnLocked b c) (λ _. refl) (λ _. refl)
+          when (λ (a : Answer). commandBytes (chipBytes c) a ≡ chipBytes (a .chip)) (eqb (columnRefusal b (c .modify)) 0) (λ _. refl) (λ no. rw no)
 
   -- so on the record of a chip each action is the chip's own
   action-as : (lines b : ℕ) → 2 ≤ lines → lines ≤ 5 → actionOn lines b (chipBytes c) ram ≡ asRecord (actionOf lines b c ram)

@@ -5,7 +5,7 @@ use mathlib.Core.Path.{_≡_, refl, ap, _∙_}
 use mathlib.Core.Bool.{false}
 use mathlib.Core.List.{List}
 use Rattle.sed1520.specs.Command.{first, count, Told}
-use Rattle.sed1520.specs.Cycle.{outcome, answered, execute, columnLocked, actionOf, cycleOf}
+use Rattle.sed1520.specs.Cycle.{outcome, answered, execute, columnRefusal, actionOf, cycleOf}
 use Rattle.sed1520.specs.Laws.{sent, Fit}
 use Rattle.sed1520.specs.declared.registers.Chip.{Chip}
 use Rattle.sed1520.specs.declared.commands.Kind.{Kind}
@@ -23,7 +23,7 @@ module _ (c : Chip) (ram : List ℕ) (fit : Fit c ram) (k : ℕ) (addressed : k 
       ∙ step-action r c ram (not-refused r (omega arith) refl addressed (strobes-differ lines low high))
 
   -- an accepted command of any kind
-  pub command-cycle : (kind : Kind) (a : ℕ) → a < count kind → columnLocked (first kind + a) c ≡ false
+  pub command-cycle : (kind : Kind) (a : ℕ) → a < count kind → columnRefusal (first kind + a) (c .modify) ≡ 0
       → cycleOf (sent 2 k (first kind + a)) c ram ≡ outcome (answered 0 0 (execute kind a c)) ram
   command-cycle kind a h free =
       let b = first kind + a in

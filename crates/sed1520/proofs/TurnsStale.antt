@@ -9,7 +9,8 @@ use Rattle.sed1520.specs.Laws.{sent, Fit}
 use Rattle.sed1520.specs.LatchPromises.{Stales, LatchTurnsStale}
 use Rattle.sed1520.specs.declared.registers.Chip.{Chip}
 use Rattle.sed1520.specs.declared.commands.Kind.the-variants.{Page}
-use Rattle.sed1520.proofs.ActionCases.{unlocked-above, data-write-done, data-write-stale}
+use Rattle.sed1520.proofs.ActionCases.{data-write-done, data-write-stale}
+use Rattle.sed1520.proofs.ColumnRefusals.{no-column-set}
 use Rattle.sed1520.proofs.SentRecords.{action-cycle, command-cycle}
 use Rattle.sed1520.proofs.StepCases.{action-data-write}
 
@@ -17,7 +18,7 @@ module _ (c : Chip) (ram : List ℕ) (fit : Fit c ram) (k : ℕ) (addressed : k 
   page-set : (n : ℕ) → n < 4 → Stales (sent 2 k (first Page + n)) c ram
   unfolding execute
   page-set n h =
-      let done = command-cycle c ram fit k addressed Page n h (unlocked-above (first Page + n) c (omega arith)) in
+      let done = command-cycle c ram fit k addressed Page n h (no-column-set (first Page + n) (c .modify) (omega arith)) in
       record { number = rw done; latch = rw done }
 
   data-write : (b : ℕ) → Stales (sent 3 k b) c ram

@@ -1,7 +1,7 @@
 -- A chip's registers: which values of a chip number 2 lets pass, the fresh chip, the read latch, and each register written alone.
 use Prim.Native.Nat.{ℕ}
 use mathlib.Core.Bool.{Bool, true, false, _&&_, _||_}
-use lib.Dec.{ltb, eqb}
+use lib.Dec.{ltb, leb, eqb}
 use Rattle.basics.specs.Choice.{if}
 use Rattle.sed1520.specs.declared.registers.Chip.{Chip}
 use Rattle.sed1520.specs.declared.registers.ReadLatch.{ReadLatch}
@@ -11,13 +11,13 @@ use Rattle.sed1520.specs.declared.registers.ReadLatch.the-variants.{Fres
 abbrev pub columnStop : ℕ
 columnStop = 80
 
--- the ranges of document 01, and no saved column while read-modify-write is off
+-- the ranges of document 01, the columns' by request C-15, and no saved column while read-modify-write is off
 unfoldable pub inRange : Chip → Bool
 inRange c =
     ltb (c .page) 4
     && (ltb (c .«start_line») 32
-    && (ltb (c .column) 128
-    && (ltb (c .«saved_column») 128
+    && (leb (c .column) columnStop
+    && (leb (c .«saved_column») columnStop
     && (c .modify || eqb (c .«saved_column») 0))))
 
 -- the fresh chip, a project rule (document 01: house)

@@ -65,20 +65,23 @@ execute Modify a c = if (c .modify) c (withModify true (c .column) c)
 execute End a c = if (c .modify) (staled (withModify false 0 (withColumn (c .«saved_column») c))) c
 execute Reset a c = staled (withStartLine 0 (withColumn 0 (withPage 0 c)))
 
--- a column set while read-modify-write is on
-abbrev pub columnLocked : ℕ → Chip → Bool
-columnLocked b c = within Column b && c .modify
+-- the number by which a byte that sets the column is refused, or 0, as for any other byte: 8 while read-modify-write is on, then 14 for a column
+-- that the chip does not have (request C-15)
+abbrev pub columnRefusal : ℕ → Bool → ℕ
+columnRefusal b modify = if (within Column b) (if modify 8 (if (leb columnStop b) 14 0)) 0
 
--- number 7 for a byte that is no command, then number 8, then the command executed
+-- number 7 for a byte that is no command, then 8 and 14, then the command executed
 abbrev pub executed : ℕ → Option Command → Chip → Answer
 executed b none c = refusal 7 c
-executed b (some m) c = if (columnLocked b c) (refusal 8 c) (answered 0 0 (execute (m .kind) (m .argument) c))
+executed b (some m) c =
+    let number = columnRefusal b (c .modify) in
+    if (eqb number 0) (answered 0 0 (execute (m .kind) (m .argument) c)) (refusal number c)
 
 -- a command write; no command alters RAM
 unfoldable pub commandWrite : ℕ → Chip → Answer
 commandWrite b c = executed b (decodeOf b .value) c
 
--- a data write; by request C-12 it leaves the read latch stale, below column 80 or not
+-- a data write; by request C-12 it leaves the read latch stale, also at the column where counting stops
 unfoldable pub dataWrite : ℕ → Chip → List ℕ → Outcome
 dataWrite b c ram =
     if (ltb (c .column) columnStop)

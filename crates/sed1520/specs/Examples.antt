@@ -12,7 +12,7 @@ use Rattle.sed1520.specs.Memory.{byteSet}
 use Rattle.sed1520.specs.Cycle.{Outcome, outcome, refusal, cycleOf, Reply, ChipAndRam, chipTurn}
 use Rattle.sed1520.specs.Laws.{sent}
 use Rattle.sed1520.specs.declared.registers.Chip.{Chip}
-use Rattle.sed1520.specs.declared.commands.Kind.the-variants.{StartLine}
+use Rattle.sed1520.specs.declared.commands.Kind.the-variants.{StartLine, Column}
 use Rattle.sed1520.specs.declared.bus.Record.{Record}
 
 -- a chip's RAM all 0
@@ -83,7 +83,8 @@ cursorAnswers = wrote ∷ wrote ∷ reply 2 0 ∷ reply 1 0 ∷ wrote ∷ []
 pub record ChipExamples : Type 0 where
   pub p1 : ran atLastColumn ≡ ranTo 0 (wrote ∷ wrote ∷ []) (chipOver (withColumn 80 fresh) (byteSet blank 0 79 0xA5))
   pub p2 : ran (atLastColumn ++ (write 0x3C ∷ [])) ≡ ranTo 0 (wrote ∷ wrote ∷ wrote ∷ []) (ran atLastColumn .state)
-  pub p3 : ran (command 100 ∷ write 0xA5 ∷ []) ≡ ranTo 0 (wrote ∷ wrote ∷ []) (chipOver (withColumn 100 fresh) blank)
+  pub p3 : (cycled start (command 100) ≡ refused start 14) × (decodeOf 100 ≡ told (record { kind = Column; argument = 100 }))
+  pub p3-ends : ran (command 100 ∷ write 0xA5 ∷ []) ≡ ranTo 14 [] start
   pub p4-fresh : ran (status ∷ []) ≡ ranTo 0 (reply 3 0x60 ∷ []) start
   pub p4-on-reverse : ran (command 0xAF ∷ command 0xA1 ∷ status ∷ [])
       ≡ ranTo 0 (wrote ∷ wrote ∷ reply 3 0x00 ∷ []) (chipOver (withReverse true (withDisplay true fresh)) blank)

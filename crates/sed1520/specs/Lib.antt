@@ -9,5 +9,6 @@ pub mod Records
 pub mod Laws
 pub mod Promises
 pub mod LatchPromises
+pub mod ColumnPromises
 pub mod Examples
 pub mod Verdict

@@ -92,9 +92,9 @@ pub record StepsPanel (p : Panel) (r : Record) (s : Acted) : Type 0 where
 abbrev pub EveryRecordStep : Type 0
 EveryRecordStep = (r : Record) (chips ram : List ℕ) → RecordsFit chips ram → StepsPanel (panelIn chips ram) r (stepRecords r chips ram)
 
--- the numbers that a record may be given: done, or 4 to 8
+-- the numbers that a record may be given: done, 4 to 8, or 14
 abbrev pub isRecordNumber : ℕ → Bool
-isRecordNumber n = eqb n 0 || (leb 4 n && leb n 8)
+isRecordNumber n = eqb n 0 || ((leb 4 n && leb n 8) || eqb n 14)
 
 -- every record is given one of these, where both chips are in range over the whole image
 abbrev pub EveryRecordNumber : Type 0

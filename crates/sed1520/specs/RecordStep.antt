@@ -1,4 +1,4 @@
--- A bus record given to the chip record that it names, numbers 1 and 4 to 8 refused and number 2 not tested: a step and no cycle. Each action
+-- A bus record given to the chip record that it names, numbers 1, 4 to 8 and 14 refused and number 2 not tested: a step and no cycle. Each action
 -- stores only the bytes of the chip record that it may change. For two records that number 2 lets pass, over the whole image, it is the cycle
 -- of the chip that the bus record names (EveryRecordStep).
 use Prim.Native.Nat.{ℕ}

@@ -1,8 +1,9 @@
 // The four actions of a chip: a command write, a data write, a data read and a status read. Each hands the successor back.
 ghost use mathlib.Core.Path.{_≡_};
-ghost use Rattle.sed1520.specs.Cycle.{refusal, answered, outcome, columnLocked, commandWrite, dataWrite};
+ghost use Rattle.sed1520.specs.Cycle.{refusal, answered, outcome, columnRefusal, commandWrite, dataWrite};
 ghost use Rattle.sed1520.specs.Cycle.{afterRead, dataRead, statusOf, statusRead};
 use crate::commands::Decoded;
+use crate::commands::Kind;
 use crate::commands::decode;
 use crate::memory::load;
 use crate::memory::store;
@@ -47,14 +48,25 @@ impl Answer {
     }
 }
 
-impl Chip {
-    // Whether the byte sets the column while read-modify-write is on.
-    fn column_locked(self, byte: u8) -> bool
-        ensures { λ r. ⌜ r ≡ columnLocked byte self ⌝ }
-    {
-        if byte < 0x80 { self.modify } else { false }
+// The number by which a byte that sets the column is refused, or 0, as for any other byte: 8 while read-modify-write is on,
+// then 14 for a column that the RAM does not have.
+fn column_refusal(byte: u8, modify: bool) -> u8
+    ensures { λ r. ⌜ r ≡ columnRefusal byte modify ⌝ }
+{
+    let set = Kind::Column;
+    if set.count() <= byte {
+        return 0;
     }
+    if modify {
+        return 8;
+    }
+    if Chip::COLUMN_STOP <= byte {
+        return 14;
+    }
+    0
+}
 
+impl Chip {
     // A command write.
     pub(crate) fn command(self, byte: u8) -> Answer
         ensures { λ r. ⌜ r ≡ commandWrite byte self ⌝ }
@@ -62,8 +74,9 @@ impl Chip {
         let Decoded::Known(command) = decode(byte) else {
             return Answer::refused(7, self);
         };
-        if self.column_locked(byte) {
-            return Answer::refused(8, self);
+        let number = column_refusal(byte, self.modify);
+        if number != 0 {
+            return Answer::refused(number, self);
         }
         Answer::done(0, 0, self.execute(command))
     }

@@ -112,8 +112,8 @@ fn start_of(chip: u8, size: usize) -> usize
 }
 
 // Gives a bus record to the chip record that it names, with that chip's part of the image. This is no cycle: it refuses
-// wrong lengths by number 1 and wrong bus records by numbers 4 to 8, but it does not test the chip records (number 2).
-// It is for a caller that has tested both once, as the replay does.
+// wrong lengths by number 1 and wrong bus records by numbers 4 to 8 and 14, but it does not test the chip records
+// (number 2). It is for a caller that has tested both once, as the replay does.
 pub fn step_of_tested_records(bus: Record, chips: &mut [u8], ram: &mut [u8]) -> BareAnswer
     ensures { λ r. ⌜ acted r (now (chips .exit)) (now (ram .exit)) ≡ stepRecords bus (now (chips .entry)) (now (ram .entry)) ⌝ }
 {

@@ -57,7 +57,8 @@ pub struct Chip {
 }
 
 impl Chip {
-    // The column at which counting stops: the RAM has the columns below it.
+    // The column at which counting stops: the RAM has the columns below it, and a column set takes one of these. The
+    // command's argument has more values, Kind::count of them.
     pub const COLUMN_STOP: u8 = 80;
     // The segments that a chip drives.
     pub const SEGMENTS: usize = 61;
@@ -96,10 +97,10 @@ impl Chip {
         if 32 <= self.start_line {
             return false;
         }
-        if 128 <= self.column {
+        if Chip::COLUMN_STOP < self.column {
             return false;
         }
-        if 128 <= self.saved_column {
+        if Chip::COLUMN_STOP < self.saved_column {
             return false;
         }
         if self.modify {

@@ -2,9 +2,9 @@
 use Prim.Native.Nat.{ℕ, _≤_}
 use native.Mathlib.Omega.{arith}
 use mathlib.Core.Path.{_≡_}
-use mathlib.Core.Bool.{true, false, _&&_}
+use mathlib.Core.Bool.{true, false, _&&_, _||_}
 use mathlib.Core.List.{List, []}
-use mathlib.Core.Logic.{⊎-elim}
+use mathlib.Core.Logic.{_⊎_, inl, inr, ⊎-elim}
 use lib.Dec.{leb, eqb}
 use lib.ListN.{length, getD}
 use borrow.Author.Tests.{eqb-true, eqb-false, ne-eqb, leb-true}
@@ -20,22 +20,27 @@ use Rattle.trace.specs.FeedPromises.{refusesPart}
 use Rattle.trace.specs.Replay.{traceRun}
 
 module _ (n : ℕ) (own : isRecordNumber n ≡ true) where
+  ways : (eqb n 0 ≡ true) ⊎ (((leb 4 n && leb n 8) ≡ true) ⊎ (eqb n 14 ≡ true))
+  ways = ⊎-elim inl (λ other. inr (either (leb 4 n && leb n 8) (eqb n 14) other)) (either (eqb n 0) ((leb 4 n && leb n 8) || eqb n 14) own)
+
   pub own-number : refusesPart n ≡ false
   own-number =
       ⊎-elim
       (λ z. rw (eqb-true n 0 z))
+      (⊎-elim
       (λ r. let range = both (leb 4 n) (leb n 8) r in
       let from = leb-true 4 n (range .0) in
       let to = leb-true n 8 (range .1) in
       rw (ne-eqb n 1 (λ z. absurd (omega arith)), ne-eqb n 2 (λ z. absurd (omega arith)), ne-eqb n 13 (λ z. absurd (omega arith))))
-      (either (eqb n 0) (leb 4 n && leb n 8) own)
+      (λ z. rw (eqb-true n 14 z)))
+      ways
 
-  pub low-number : n ≤ 8
+  pub low-number : n ≤ 14
   low-number =
       ⊎-elim
       (λ z. let e = eqb-true n 0 z in omega arith)
-      (λ r. leb-true n 8 (both (leb 4 n) (leb n 8) r .1))
-      (either (eqb n 0) (leb 4 n && leb n 8) own)
+      (⊎-elim (λ r. let to = leb-true n 8 (both (leb 4 n) (leb n 8) r .1) in omega arith) (λ z. let e = eqb-true n 14 z in omega arith))
+      ways
 
 pub run-number : (p : Panel) → Whole p → (bytes : List ℕ) → isRecordNumber (traceRun p bytes .number) ≡ true
 run-number p whole bytes =

@@ -103,6 +103,35 @@ const COUNTING_STOP: [u8; 119] = *b"\
     \x05\x00\x00\x00\x00\x02\x00\
     \x05\x00\x00\x00\x00\x01\x00";
 
+// Request C-15: the slip. Column 100 (64 hex) is refused with number 14, and so are the first and the last of the columns
+// that do not exist, 50 and 7F: what is written next goes to the column counted so far, and a fresh latch stays fresh. In
+// read-modify-write it is number 8. Column 79 exists, and counting reaches 80, which read-modify-write saves and returns to.
+const MISSING_COLUMN: [u8; 168] = *b"\
+    \x02\x00\xBA\x00\x00\x00\x00\
+    \x02\x00\x0A\x00\x00\x00\x00\
+    \x03\x00\x11\x00\x00\x00\x00\
+    \x02\x00\x64\x00\x0E\x00\x00\
+    \x03\x00\x22\x00\x00\x00\x00\
+    \x02\x00\x0A\x00\x00\x00\x00\
+    \x05\x00\x00\x00\x00\x02\x00\
+    \x02\x00\x50\x00\x0E\x00\x00\
+    \x05\x00\x00\x00\x00\x01\x11\
+    \x02\x00\x7F\x00\x0E\x00\x00\
+    \x05\x00\x00\x00\x00\x01\x22\
+    \x02\x00\xE0\x00\x00\x00\x00\
+    \x02\x00\x64\x00\x08\x00\x00\
+    \x02\x00\xEE\x00\x00\x00\x00\
+    \x02\x00\x4F\x00\x00\x00\x00\
+    \x03\x00\x33\x00\x00\x00\x00\
+    \x02\x00\xE0\x00\x00\x00\x00\
+    \x02\x00\xEE\x00\x00\x00\x00\
+    \x03\x00\x44\x00\x00\x00\x00\
+    \x05\x00\x00\x00\x00\x02\x00\
+    \x02\x00\x4F\x00\x00\x00\x00\
+    \x05\x00\x00\x00\x00\x02\x00\
+    \x05\x00\x00\x00\x00\x01\x33\
+    \x05\x00\x00\x00\x00\x02\x33";
+
 // 4.13: reset brings page, column and start line to 0 and leaves RAM, display and direction alone.
 const RESET: [u8; 112] = *b"\
     \x02\x00\xAF\x00\x00\x00\x00\
@@ -222,6 +251,7 @@ fn main() {
     check::expect(agrees(&CURSOR_READ_BACK));
     check::expect(agrees(&EMPTY_READ));
     check::expect(agrees(&COUNTING_STOP));
+    check::expect(agrees(&MISSING_COLUMN));
     check::expect(agrees(&RESET));
     check::expect(agrees(&STATUS_AND_DIRECTION));
     check::expect(agrees(&REFUSALS));

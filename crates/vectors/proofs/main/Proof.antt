@@ -40,4 +40,7 @@ main-spec =
     (λ c. search needs)
     (λ c κs. search needs)
     (λ c κs. c .agrees8 .ensures)
+    (λ c. search needs)
+    (λ c κs. search needs)
+    (λ c κs. c .agrees9 .ensures)
     (λ c. search needs))

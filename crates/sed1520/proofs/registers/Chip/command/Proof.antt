@@ -1,10 +1,10 @@
--- `sed1520::registers::Chip::command` meets its contract: a byte that is no command, a locked column set, and an executed command.
+-- `sed1520::registers::Chip::command` meets its contract: a byte that is no command, a refused column set, and an executed command.
 use mathlib.Core.Path.{_≡_, sym, _∙_}
 use mathlib.Core.Option.{some}
 use borrow.Author.Needs.{needs}
 use Rattle.sed1520.specs.Command.{decodeOf}
 use Rattle.sed1520.specs.Cycle.{commandWrite}
-use Rattle.sed1520.proofs.ActionCases.{known-command, no-command}
+use Rattle.sed1520.proofs.ActionCases.{known-command, no-command, command-executed, command-refused}
 use Rattle.sed1520.proofs.registers.Chip.command.Statement.{statement}
 use Rattle.sed1520.proofs.registers.Chip.command.Tie as tie
 
@@ -19,17 +19,18 @@ returns c =
     rw (c .refused .ensures, no-command _ _ _ (told .before .before .decode .ensures) (told .enum-told .given .1))
 
 returns-2 : tie.Need-returns-2
-unfolding commandWrite
 returns-2 c =
-    let lock = c .before .before in
-    rw (c .refused2 .ensures, known (lock .before .before), sym (lock .column-locked .ensures) ∙ c .before .if1 .taken)
+    let asked = c .before .before in
+    let number = asked .column-refusal .ensures in
+    rw (c .refused2 .ensures, number)
+    (sym (command-refused _ _ _ (known (asked .before .before)) (λ none. c .before .if1 .taken (number ∙ none))))
 
 returns-3 : tie.Need-returns-3
-unfolding commandWrite
 returns-3 c =
     let passed = c .before .before in
-    let lock = passed .before in
-    rw (c .done .ensures, c .before .execute .ensures, known (lock .before .before), sym (lock .column-locked .ensures) ∙ passed .if1 .left)
+    let asked = passed .before in
+    rw (c .done .ensures, c .before .execute .ensures)
+    (sym (command-executed _ _ _ (known (asked .before .before)) (sym (asked .column-refusal .ensures) ∙ passed .if1 .left)))
 
 pub command-spec : {M : Type 1} → statement M
 command-spec =

@@ -1,0 +1,57 @@
+-- Which column sets a chip takes, and that no other record is given number 14.
+use Prim.Native.Nat.{ℕ, _+_, _<_, _≤_}
+use native.Mathlib.Omega.{arith}
+use mathlib.Core.Path.{_≡_, refl, ap, sym, _∙_}
+use mathlib.Core.Bool.{false}
+use mathlib.Core.List.{List}
+use Rattle.sed1520.specs.Chip.{columnStop}
+use Rattle.sed1520.specs.ColumnPromises.{ColumnSet, SetsNoColumn, ColumnSets}
+use Rattle.sed1520.specs.Command.{first, count, Told}
+use Rattle.sed1520.specs.Cycle.{outcome, refusal, execute, columnRefusal, cycleOf}
+use Rattle.sed1520.specs.Laws.{sent, Fit}
+use Rattle.sed1520.specs.declared.registers.Chip.{Chip}
+use Rattle.sed1520.specs.declared.commands.Command.{Command}
+use Rattle.sed1520.specs.declared.commands.Kind.the-variants.{Column}
+use Rattle.sed1520.specs.declared.bus.Record.{Record}
+use Rattle.sed1520.proofs.ActionCases.{command-refused}
+use Rattle.sed1520.proofs.ColumnRefusals.{column-locked, column-missing, column-taken}
+use Rattle.sed1520.proofs.EachNumber.{each-number}
+use Rattle.sed1520.proofs.OneRule.{decoded-argument}
+use Rattle.sed1520.proofs.SentRecords.{action-cycle, command-cycle}
+use Rattle.sed1520.proofs.StepCases.{action-command}
+
+module _ (c : Chip) (ram : List ℕ) (fit : Fit c ram) (k : ℕ) (addressed : k < 2) (n : ℕ) (set : n < count Column) where
+  -- refused by a number that the column set is given
+  refused-set : (number : ℕ) → columnRefusal (first Column + n) (c .modify) ≡ number → (number ≡ 0 → ⊥)
+      → cycleOf (sent 2 k (first Column + n)) c ram ≡ outcome (refusal number c) ram
+  refused-set number e held =
+      let known = ap (λ (t : Told Command). t .value) (decoded-argument Column n set) in
+      action-cycle c ram fit k addressed 2 (first Column + n) (omega arith) (omega arith)
+      ∙ action-command 2 (first Column + n) c ram refl
+      ∙ rw (command-refused (first Column + n) c _ known (λ none. held (sym e ∙ none)), e)
+
+  column-set : ColumnSet c ram k n
+  unfolding execute
+  column-set =
+      let b = first Column + n in
+      record {
+        told-alone = decoded-argument Column n set;
+        locked = λ on. refused-set 8 (column-locked b (c .modify) (omega arith) on) (λ e. absurd (omega arith));
+        missing = λ off beyond. refused-set 14 (column-missing b (c .modify) (omega arith) off (omega arith)) (λ e. absurd (omega arith));
+        taken = λ off there. command-cycle c ram fit k addressed Column n set (column-taken b (c .modify) (omega arith) off (omega arith));
+      }
+
+-- number 14 is given to no other record
+only : (r : Record) (c : Chip) (ram : List ℕ) → cycleOf r c ram .answer .number ≡ 14 → SetsNoColumn r c
+only r c ram =
+    each-number (λ n. n ≡ 14 → SetsNoColumn r c) r c ram
+    (record {
+      done = λ e. absurd (omega arith);
+      wrong-size = λ _ e. absurd (omega arith);
+      wrong-chip = λ _ e. absurd (omega arith);
+      refused = λ n from to e. absurd (omega arith);
+      no-column = λ set e. set;
+    })
+
+pub column-sets : ColumnSets
+column-sets = record { each = column-set; only = only }
