@@ -1,7 +1,8 @@
 /*
  * Walks the table of numbers and the checked examples of document 01, and the feed, the stale latch and
- * the refused columns of document 02, through the archive. What is expected is written out here from the documents, not
- * taken from any implementation; what a feed leaves is told by the archive's replays of whole records.
+ * the refused columns of document 02, through the archive. What is expected is written out here from the
+ * documents, not taken from any implementation; what a feed leaves is told by the archive's replays of
+ * whole records.
  */
 #define PROGRAM "test"
 #include "check.h"

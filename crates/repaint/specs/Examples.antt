@@ -1,4 +1,4 @@
--- The checked examples of document 01, P1 to P12, under one statement.
+-- The checked examples of document 01, P1 to P12 (P3 as request C-15 changes it), under one statement.
 use Prim.Native.Nat.{ℕ}
 use mathlib.Core.Path.{_≡_}
 use mathlib.Core.Bool.{true, false}

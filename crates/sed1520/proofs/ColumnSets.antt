@@ -1,11 +1,9 @@
--- Which column sets a chip takes, and that no other record is given number 14.
-use Prim.Native.Nat.{ℕ, _+_, _<_, _≤_}
+-- Which column sets a chip takes, and that number 14 is given for its cause alone.
+use Prim.Native.Nat.{ℕ, _+_, _<_}
 use native.Mathlib.Omega.{arith}
 use mathlib.Core.Path.{_≡_, refl, ap, sym, _∙_}
-use mathlib.Core.Bool.{false}
 use mathlib.Core.List.{List}
-use Rattle.sed1520.specs.Chip.{columnStop}
-use Rattle.sed1520.specs.ColumnPromises.{ColumnSet, SetsNoColumn, ColumnSets}
+use Rattle.sed1520.specs.ColumnPromises.{ColumnSet, SetsMissingColumn, ColumnSets}
 use Rattle.sed1520.specs.Command.{first, count, Told}
 use Rattle.sed1520.specs.Cycle.{outcome, refusal, execute, columnRefusal, cycleOf}
 use Rattle.sed1520.specs.Laws.{sent, Fit}
@@ -41,16 +39,16 @@ module _ (c : Chip) (ram : List ℕ) (fit : Fit c ram) (k : ℕ) (addressed : k 
         taken = λ off there. command-cycle c ram fit k addressed Column n set (column-taken b (c .modify) (omega arith) off (omega arith));
       }
 
--- number 14 is given to no other record
-only : (r : Record) (c : Chip) (ram : List ℕ) → cycleOf r c ram .answer .number ≡ 14 → SetsNoColumn r c
+-- number 14 is given for its cause alone
+only : (r : Record) (c : Chip) (ram : List ℕ) → cycleOf r c ram .answer .number ≡ 14 → SetsMissingColumn r c ram
 only r c ram =
-    each-number (λ n. n ≡ 14 → SetsNoColumn r c) r c ram
+    each-number (λ n. n ≡ 14 → SetsMissingColumn r c ram) r c ram
     (record {
       done = λ e. absurd (omega arith);
       wrong-size = λ _ e. absurd (omega arith);
       wrong-chip = λ _ e. absurd (omega arith);
       refused = λ n from to e. absurd (omega arith);
-      no-column = λ set e. set;
+      missing-column = λ cause e. cause;
     })
 
 pub column-sets : ColumnSets

@@ -8,7 +8,6 @@ use lib.ListN.{length, length-set}
 use borrow.Author.Needs.{needs}
 use borrow.Author.Tests.{ltb-true}
 use Rattle.basics.specs.Choice.{if}
-use Rattle.sed1520.specs.Chip.{columnStop}
 use Rattle.sed1520.specs.Command.{first}
 use Rattle.sed1520.specs.Memory.{ramIndex}
 use Rattle.sed1520.specs.Cycle.{outcome, refusal, answered, execute, dataWrite, afterRead, dataRead, cycleOf}

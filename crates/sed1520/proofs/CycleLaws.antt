@@ -1,7 +1,7 @@
 -- The laws of the records that a repaint sends: a page set, a column set, a start line set, and a data write below the last column.
 use Prim.Native.Nat.{ℕ, _+_, _<_}
 use native.Mathlib.Omega.{arith}
-use mathlib.Core.Path.{_≡_, refl, _∙_}
+use mathlib.Core.Path.{_≡_, _∙_}
 use mathlib.Core.Bool.{false}
 use mathlib.Core.List.{List}
 use Rattle.sed1520.specs.Chip.{withPage, withColumn, withStartLine}
@@ -16,8 +16,7 @@ use Rattle.sed1520.specs.declared.bus.Record.{Record}
 use Rattle.sed1520.proofs.ActionCases.{data-write-stored}
 use Rattle.sed1520.proofs.ColumnRefusals.{no-column-set, column-taken}
 use Rattle.sed1520.proofs.CycleKeeps.{cycle-keeps}
-use Rattle.sed1520.proofs.SentRecords.{action-cycle, command-cycle}
-use Rattle.sed1520.proofs.StepCases.{action-data-write}
+use Rattle.sed1520.proofs.SentRecords.{write-cycle, command-cycle}
 
 module _ (c : Chip) (ram : List ℕ) (fit : Fit c ram) where
   -- a cycle whose outcome is known
@@ -55,7 +54,7 @@ module _ (c : Chip) (ram : List ℕ) (fit : Fit c ram) where
         → Accepts (sent 3 k b) c ram (registers (withColumn (c .column + 1) c)) (byteSet ram (c .page) (c .column) b)
     data-write b h =
         accepted (sent 3 k b) _ (byteSet ram (c .page) (c .column) b)
-        (action-cycle c ram fit k addressed 3 b (omega arith) (omega arith) ∙ action-data-write 3 b c ram refl ∙ data-write-stored c ram h b)
+        (write-cycle c ram fit k addressed b ∙ data-write-stored c ram h b)
 
 pub cycle-laws : CycleLaws
 cycle-laws = record { page-set = page-set; start-line-set = start-line-set; column-set = column-set; data-write = data-write }

@@ -6,25 +6,23 @@ use mathlib.Core.Path.{_≡_, refl, sym, ap}
 use mathlib.Core.Bool.{not}
 use mathlib.Core.List.{List}
 use mathlib.Core.Option.{Option, none, some}
-use lib.Dec.{leb, eqb}
+use lib.Dec.{eqb}
 use lib.ListN.{length}
 use borrow.Author.Tests.{eqb-true, eqb-false}
 use Rattle.basics.proofs.Tests.{when-both}
-use Rattle.sed1520.specs.Chip.{columnStop, inRange}
-use Rattle.basics.specs.Choice.{if}
-use Rattle.sed1520.specs.Command.{first, count, within, decodeOf}
+use Rattle.sed1520.specs.Chip.{inRange}
+use Rattle.sed1520.specs.Command.{first, count, decodeOf}
 use Rattle.sed1520.specs.Cycle.{Outcome, outcome, refusal, answered, execute, columnRefusal, executed, commandWrite, dataWrite}
 use Rattle.sed1520.specs.Cycle.{dataRead, statusRead, writeLine, addressLine, actionOf, busRefusal, stepOf, cycleOf}
 use Rattle.sed1520.specs.declared.actions.Answer.{Answer}
 use Rattle.sed1520.specs.declared.registers.Chip.{Chip}
 use Rattle.sed1520.specs.declared.commands.Kind.{Kind}
-use Rattle.sed1520.specs.declared.commands.Kind.the-variants.{Column}
 use Rattle.sed1520.specs.declared.commands.Command.{Command}
 use Rattle.sed1520.specs.declared.bus.Record.{Record}
 use Rattle.sed1520.proofs.OneRule.{Placed, told-place}
 use Rattle.sed1520.proofs.StepCases.{asks}
 
--- a command that is executed: its argument is one of its kind's, and no column set is refused
+-- a command that is executed: its argument is one of its kind's, and it is no column set that is refused
 pub record Taken (k : Kind) (a : ℕ) (c : Chip) : Type 0 where
   pub argument : a < count k
   pub column : columnRefusal (first k + a) (c .modify) ≡ 0

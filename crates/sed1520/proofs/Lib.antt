@@ -5,6 +5,7 @@ pub mod ChipRange
 pub mod ColumnRange
 pub mod ColumnRefusals
 pub mod ColumnSets
+pub mod CountingStops
 pub mod CommandBytes
 pub mod CycleKeeps
 pub mod CycleLaws

@@ -1,25 +1,20 @@
 -- A data read below column 80 loads the read latch, and the data read right after it answers what it loaded.
 use Prim.Native.Nat.{ℕ, _<_}
-use native.Mathlib.Omega.{arith}
-use mathlib.Core.Path.{_≡_, refl, _∙_}
+use mathlib.Core.Path.{_≡_, refl}
 use mathlib.Core.List.{List}
 use borrow.Author.Tests.{lt-ltb}
-use Rattle.sed1520.specs.Cycle.{outcome, afterRead, dataRead, cycleOf}
+use Rattle.sed1520.specs.Cycle.{afterRead, dataRead}
 use Rattle.sed1520.specs.Laws.{sent, Fit}
 use Rattle.sed1520.specs.LatchPromises.{OneEmptyRead}
 use Rattle.sed1520.specs.Memory.{byteAt}
 use Rattle.sed1520.specs.declared.registers.Chip.{Chip}
 use Rattle.sed1520.specs.declared.registers.ReadLatch.the-variants.{Fresh}
 use Rattle.sed1520.proofs.CycleKeeps.{cycle-keeps}
-use Rattle.sed1520.proofs.SentRecords.{action-cycle}
-use Rattle.sed1520.proofs.StepCases.{action-data-read}
+use Rattle.sed1520.proofs.SentRecords.{read-cycle}
 
 loaded : (c : Chip) (ram : List ℕ) → c .column < 80 → afterRead c ram .latch ≡ Fresh (byteAt ram (c .page) (c .column))
 unfolding afterRead
 loaded c ram below = rw (lt-ltb (c .column) 80 below)
-
-read-cycle : (c : Chip) (ram : List ℕ) → Fit c ram → (k : ℕ) → k < 2 → (b : ℕ) → cycleOf (sent 5 k b) c ram ≡ outcome (dataRead c ram) ram
-read-cycle c ram fit k addressed b = action-cycle c ram fit k addressed 5 b (omega arith) (omega arith) ∙ action-data-read 5 b c ram refl
 
 pub one-empty-read : OneEmptyRead
 unfolding dataRead

@@ -2,7 +2,7 @@
 use mathlib.Core.Path.{_≡_, refl}
 use mathlib.Core.Bool.{true, or-true}
 use lib.Dec.{eqb}
-use borrow.Author.Tests.{eq-eqb, le-leb}
+use borrow.Author.Tests.{le-leb}
 use Rattle.sed1520.specs.Panel.{outcomeOf, chipAt, ramAt}
 use Rattle.sed1520.specs.Promises.{isRecordNumber, EveryRecordNumber}
 use Rattle.sed1520.proofs.EachNumber.{each-number}
@@ -18,5 +18,5 @@ every-record-number p whole r =
       wrong-size = λ wrong. absurd (wrong (fit .bytes));
       wrong-chip = λ wrong. absurd (wrong (fit .range));
       refused = λ n from to. rw (le-leb 4 n from, le-leb n 8 to) (or-true (eqb n 0));
-      no-column = λ _. refl;
+      missing-column = λ _. refl;
     })

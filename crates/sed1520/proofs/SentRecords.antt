@@ -2,17 +2,16 @@
 use Prim.Native.Nat.{ℕ, _+_, _<_, _≤_}
 use native.Mathlib.Omega.{arith}
 use mathlib.Core.Path.{_≡_, refl, ap, _∙_}
-use mathlib.Core.Bool.{false}
 use mathlib.Core.List.{List}
 use Rattle.sed1520.specs.Command.{first, count, Told}
-use Rattle.sed1520.specs.Cycle.{outcome, answered, execute, columnRefusal, actionOf, cycleOf}
+use Rattle.sed1520.specs.Cycle.{outcome, answered, execute, columnRefusal, dataWrite, dataRead, actionOf, cycleOf}
 use Rattle.sed1520.specs.Laws.{sent, Fit}
 use Rattle.sed1520.specs.declared.registers.Chip.{Chip}
 use Rattle.sed1520.specs.declared.commands.Kind.{Kind}
 use Rattle.sed1520.specs.declared.commands.Command.{Command}
 use Rattle.sed1520.proofs.ActionCases.{command-executed}
 use Rattle.sed1520.proofs.OneRule.{decoded-argument}
-use Rattle.sed1520.proofs.StepCases.{action-command, not-refused, strobes-differ, step-action, cycle-step}
+use Rattle.sed1520.proofs.StepCases.{action-command, action-data-write, action-data-read, not-refused, strobes-differ, step-action, cycle-step}
 
 module _ (c : Chip) (ram : List ℕ) (fit : Fit c ram) (k : ℕ) (addressed : k < 2) where
   -- the cycle of a record whose lines ask for an action
@@ -21,6 +20,12 @@ module _ (c : Chip) (ram : List ℕ) (fit : Fit c ram) (k : ℕ) (addressed : k 
       let r = sent lines k b in
       cycle-step r c ram (fit .bytes) (fit .range)
       ∙ step-action r c ram (not-refused r (omega arith) refl addressed (strobes-differ lines low high))
+
+  pub write-cycle : (b : ℕ) → cycleOf (sent 3 k b) c ram ≡ dataWrite b c ram
+  write-cycle b = action-cycle 3 b (omega arith) (omega arith) ∙ action-data-write 3 b c ram refl
+
+  pub read-cycle : (b : ℕ) → cycleOf (sent 5 k b) c ram ≡ outcome (dataRead c ram) ram
+  read-cycle b = action-cycle 5 b (omega arith) (omega arith) ∙ action-data-read 5 b c ram refl
 
   -- an accepted command of any kind
   pub command-cycle : (kind : Kind) (a : ℕ) → a < count kind → columnRefusal (first kind + a) (c .modify) ≡ 0

@@ -9,7 +9,7 @@ use lib.Dec.{leb, eqb}
 use lib.ListN.{length}
 use borrow.Author.Tests.{le-leb, lt-leb, leb-true, leb-false, eq-eqb, ne-eqb, eqb-false}
 use Rattle.basics.specs.Choice.{if}
-use Rattle.basics.proofs.Tests.{tested, neither}
+use Rattle.basics.proofs.Tests.{tested, neither, no-other}
 use Rattle.sed1520.specs.Chip.{inRange}
 use Rattle.sed1520.specs.Cycle.{busRefusal, outcome, refusal, commandWrite, dataWrite, dataRead, statusRead}
 use Rattle.sed1520.specs.Cycle.{readLine, writeLine, actionOf, stepOf, cycleOf}
@@ -71,14 +71,16 @@ pub record Asks (r : Record) : Type 0 where
   pub from : 2 ≤ r .lines
   pub to : r .lines ≤ 5
   pub chip : r .chip < 2
+  pub spare : r .spare ≡ 0
 
 pub asks : (r : Record) → busRefusal r ≡ 0 → Asks r
 unfolding busRefusal
 asks r e =
     let tests = none (leb 8 (r .lines) || not (eqb (r .spare) 0)) (leb 2 (r .chip)) (eqb (readLine (r .lines)) (writeLine (r .lines))) e in
-    let lines = leb-false 8 (r .lines) (neither (leb 8 (r .lines)) _ (tests .0) .0) in
+    let bits = neither (leb 8 (r .lines)) _ (tests .0) in
+    let lines = leb-false 8 (r .lines) (bits .0) in
     let strobes = eqb-false (readLine (r .lines)) (writeLine (r .lines)) (tests .1 .1) in
-    record { from = omega arith; to = omega arith; chip = leb-false 2 (r .chip) (tests .1 .0) }
+    record { from = omega arith; to = omega arith; chip = leb-false 2 (r .chip) (tests .1 .0); spare = no-other (r .spare) 0 (bits .1) }
   where
     none : (a b s : Bool) → _≡_ {A = ℕ} (if a 4 (if b 5 (if s 6 0))) 0 → (a ≡ false) × ((b ≡ false) × (s ≡ false))
     none true b s h = absurd (omega arith)

@@ -1,7 +1,6 @@
 -- A page set and a data write leave the read latch stale with the byte that it had.
 use Prim.Native.Nat.{ℕ, _+_, _<_}
 use native.Mathlib.Omega.{arith}
-use mathlib.Core.Path.{refl, _∙_}
 use mathlib.Core.List.{List}
 use Rattle.sed1520.specs.Command.{first}
 use Rattle.sed1520.specs.Cycle.{execute}
@@ -11,8 +10,7 @@ use Rattle.sed1520.specs.declared.registers.Chip.{Chip}
 use Rattle.sed1520.specs.declared.commands.Kind.the-variants.{Page}
 use Rattle.sed1520.proofs.ActionCases.{data-write-done, data-write-stale}
 use Rattle.sed1520.proofs.ColumnRefusals.{no-column-set}
-use Rattle.sed1520.proofs.SentRecords.{action-cycle, command-cycle}
-use Rattle.sed1520.proofs.StepCases.{action-data-write}
+use Rattle.sed1520.proofs.SentRecords.{write-cycle, command-cycle}
 
 module _ (c : Chip) (ram : List ℕ) (fit : Fit c ram) (k : ℕ) (addressed : k < 2) where
   page-set : (n : ℕ) → n < 4 → Stales (sent 2 k (first Page + n)) c ram
@@ -23,7 +21,7 @@ module _ (c : Chip) (ram : List ℕ) (fit : Fit c ram) (k : ℕ) (addressed : k 
 
   data-write : (b : ℕ) → Stales (sent 3 k b) c ram
   data-write b =
-      let done = action-cycle c ram fit k addressed 3 b (omega arith) (omega arith) ∙ action-data-write 3 b c ram refl in
+      let done = write-cycle c ram fit k addressed b in
       record { number = rw (done, data-write-done c ram b); latch = rw done (data-write-stale c ram b) }
 
 pub latch-turns-stale : LatchTurnsStale

@@ -7,7 +7,7 @@ use Rattle.sed1520.specs.declared.registers.Chip.{Chip}
 use Rattle.sed1520.specs.declared.registers.ReadLatch.{ReadLatch}
 use Rattle.sed1520.specs.declared.registers.ReadLatch.the-variants.{Fresh, Stale}
 
--- how many columns a chip has, and so the column at which counting stops; a column set is told with more arguments than that, `count Column` of them
+-- how many columns a chip has, and so the column at which counting stops; not how many a column set is told with, which is `count Column`
 abbrev pub columnStop : ℕ
 columnStop = 80
 

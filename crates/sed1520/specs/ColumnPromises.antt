@@ -1,9 +1,9 @@
--- What is proved of columns (request C-15): which column sets a chip takes, and that no chip is ever past the column at which counting stops.
+-- What is proved of columns (request C-15): which column sets a chip takes, which columns number 2 lets pass, and that counting stops.
 use Prim.Native.Nat.{ℕ, suc, _+_, _<_, _≤_}
 use mathlib.Core.Path.{_≡_}
 use mathlib.Core.Bool.{Bool, true, false}
 use mathlib.Core.List.{List}
-use Rattle.sed1520.specs.Chip.{columnStop, inRange, staled, withColumn, withModify}
+use Rattle.sed1520.specs.Chip.{columnStop, inRange, latched, kindOf, staled, withColumn, withModify}
 use Rattle.sed1520.specs.Command.{first, count, told, decodeOf}
 use Rattle.sed1520.specs.Cycle.{outcome, refusal, answered, cycleOf}
 use Rattle.sed1520.specs.Laws.{sent, Fit, Whole}
@@ -20,23 +20,35 @@ pub record ColumnSet (c : Chip) (ram : List ℕ) (k n : ℕ) : Type 0 where
   pub missing : c .modify ≡ false → columnStop ≤ n → cycleOf (sent 2 k (first Column + n)) c ram ≡ outcome (refusal 14 c) ram
   pub taken : c .modify ≡ false → n < columnStop → cycleOf (sent 2 k (first Column + n)) c ram ≡ outcome (answered 0 0 (staled (withColumn n c))) ram
 
--- a command write that sets a column which the chip does not have, read-modify-write off
-abbrev pub SetsNoColumn : Record → Chip → Type 0
-SetsNoColumn r c = (r .lines ≡ 2) × ((columnStop ≤ r .byte) × ((r .byte < count Column) × (c .modify ≡ false)))
+-- the cause of number 14: a column set to a column that the chip does not have, and no cause of a number that is tested before it
+pub record SetsMissingColumn (r : Record) (c : Chip) (ram : List ℕ) : Type 0 where
+  pub fit : Fit c ram
+  pub spare : r .spare ≡ 0
+  pub chip : r .chip < 2
+  pub lines : r .lines ≡ 2
+  pub from : first Column + columnStop ≤ r .byte
+  pub to : r .byte < first Column + count Column
+  pub off : c .modify ≡ false
 
--- every argument of a column set is dealt with so, on either chip; and no other record is given number 14, whatever the chip and its RAM
+-- every argument of a column set is dealt with so, on either chip; and number 14 is given for its cause alone, whatever the record, the chip and its RAM
 pub record ColumnSets : Type 0 where
   pub each : (c : Chip) (ram : List ℕ) → Fit c ram → (k : ℕ) → k < 2 → (n : ℕ) → n < count Column → ColumnSet c ram k n
-  pub only : (r : Record) (c : Chip) (ram : List ℕ) → cycleOf r c ram .answer .number ≡ 14 → SetsNoColumn r c
+  pub only : (r : Record) (c : Chip) (ram : List ℕ) → cycleOf r c ram .answer .number ≡ 14 → SetsMissingColumn r c ram
 
--- number 2 lets a column and a saved column pass up to the one at which counting stops, and none past it; counting reaches it, by a data write and
--- by a data read; and after any records no chip is past it
+-- number 2 lets a column and a saved column pass up to the one at which counting stops, and none past it
 pub record ColumnRange : Type 0 where
-  pub stop : (c : Chip) → inRange c ≡ true → (inRange (withColumn columnStop c) ≡ true) × (inRange (withModify true columnStop c) ≡ true)
-  pub past : (c : Chip) (n : ℕ) → columnStop < n
-      → (inRange (withColumn n c) ≡ false) × (inRange (withModify true n c) ≡ false)
+  pub up-to : (c : Chip) → inRange c ≡ true → (n : ℕ) → n ≤ columnStop
+      → (inRange (withColumn n c) ≡ true) × (inRange (withModify true n c) ≡ true)
+  pub past : (c : Chip) (n : ℕ) → columnStop < n → (inRange (withColumn n c) ≡ false) × ((on : Bool) → inRange (withModify on n c) ≡ false)
+
+-- a data write, and a data read with read-modify-write off, count up to that column, and there both leave column and RAM; from chips that number 2
+-- lets pass no records lead past it
+pub record CountingStops : Type 0 where
   pub reached : (c : Chip) (ram : List ℕ) → Fit c ram → suc (c .column) ≡ columnStop → (k : ℕ) → k < 2 → (b : ℕ)
       → (cycleOf (sent 3 k b) c ram .answer .chip .column ≡ columnStop)
       × (c .modify ≡ false → cycleOf (sent 5 k b) c ram .answer .chip .column ≡ columnStop)
-  pub always : (p : Panel) → Whole p → (rs : List Record) (k : ℕ)
+  pub stays : (c : Chip) (ram : List ℕ) → Fit c ram → c .column ≡ columnStop → (k : ℕ) → k < 2 → (b : ℕ)
+      → (cycleOf (sent 3 k b) c ram ≡ outcome (answered 0 0 (staled c)) ram)
+      × (cycleOf (sent 5 k b) c ram ≡ outcome (answered (kindOf (c .latch)) (latched (c .latch)) (staled c)) ram)
+  pub never-past : (p : Panel) → Whole p → (rs : List Record) (k : ℕ)
       → (chipAt (after p rs) k .column ≤ columnStop) × (chipAt (after p rs) k .«saved_column» ≤ columnStop)

@@ -28,7 +28,7 @@ first Modify = 0xE0
 first End = 0xEE
 first Reset = 0xE2
 
--- how many values a kind's argument may take, from 0 up
+-- how many arguments a kind is told with, from 0 up; of a column set's, a chip takes those below `columnStop`
 abbrev pub count : Kind → ℕ
 count Display = 2
 count StartLine = 32

@@ -1,6 +1,6 @@
 -- One bus cycle of one chip over its own 320 bytes of RAM.
 use Prim.Native.Nat.{ℕ, _+_, _/_, _%_}
-use mathlib.Core.Bool.{Bool, true, false, not, _&&_, _||_}
+use mathlib.Core.Bool.{Bool, true, false, not, _||_}
 use mathlib.Core.List.{List}
 use mathlib.Core.Option.{Option, none, some}
 use lib.Dec.{ltb, leb, eqb}
@@ -8,7 +8,7 @@ use lib.ListN.{length}
 use Rattle.basics.specs.Choice.{if}
 use Rattle.sed1520.specs.Chip.{columnStop, inRange, latched, kindOf, staled}
 use Rattle.sed1520.specs.Chip.{withDisplay, withStatic, withDuty, withReverse, withPage, withStartLine, withColumn, withLatch, withModify}
-use Rattle.sed1520.specs.Command.{decodeOf, within}
+use Rattle.sed1520.specs.Command.{first, decodeOf, within}
 use Rattle.basics.specs.Run.{Turn}
 use Rattle.sed1520.specs.Memory.{byteAt, byteSet}
 use Rattle.sed1520.specs.declared.registers.Chip.{Chip}
@@ -65,10 +65,10 @@ execute Modify a c = if (c .modify) c (withModify true (c .column) c)
 execute End a c = if (c .modify) (staled (withModify false 0 (withColumn (c .«saved_column») c))) c
 execute Reset a c = staled (withStartLine 0 (withColumn 0 (withPage 0 c)))
 
--- the number by which a byte that sets the column is refused, or 0, as for any other byte: 8 while read-modify-write is on, then 14 for a column
--- that the chip does not have (request C-15)
+-- the number by which a byte is refused as a column set, else 0: 8 while read-modify-write is on, then 14 for a column that the chip does not have
+-- (request C-15)
 abbrev pub columnRefusal : ℕ → Bool → ℕ
-columnRefusal b modify = if (within Column b) (if modify 8 (if (leb columnStop b) 14 0)) 0
+columnRefusal b modify = if (within Column b) (if modify 8 (if (leb (first Column + columnStop) b) 14 0)) 0
 
 -- number 7 for a byte that is no command, then 8 and 14, then the command executed
 abbrev pub executed : ℕ → Option Command → Chip → Answer

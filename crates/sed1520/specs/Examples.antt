@@ -1,5 +1,5 @@
--- The checked examples of document 01 that speak of one chip, each begun at the fresh chip with its RAM all 0. Those of the frame and of the
--- repaint join them in the layers above.
+-- The checked examples of document 01 that speak of one chip, P3 as request C-15 changes it, each begun at the fresh chip with its RAM all 0. Those
+-- of the frame and of the repaint join them in the layers above.
 use Prim.Native.Nat.{ℕ}
 use mathlib.Core.Path.{_≡_}
 use mathlib.Core.Bool.{true}

@@ -30,8 +30,8 @@ pub record LatchTurnsStale : Type 0 where
   pub page-set : (c : Chip) (ram : List ℕ) → Fit c ram → (k : ℕ) → k < 2 → (n : ℕ) → n < 4 → Stales (sent 2 k (first Page + n)) c ram
   pub data-write : (c : Chip) (ram : List ℕ) → Fit c ram → (k : ℕ) → k < 2 → (b : ℕ) → Stales (sent 3 k b) c ram
 
--- a data read below column 80, whatever the latch held, and right after it another one: that one answers kind 1 and the byte of the cell that the
--- first one addressed
+-- a data read at a column that the chip has, whatever the latch held, and right after it another one: that one answers kind 1 and the byte of the
+-- cell that the first one addressed
 abbrev pub OneEmptyRead : Type 0
 OneEmptyRead =
     (c : Chip) (ram : List ℕ) → Fit c ram → c .column < columnStop → (k : ℕ) → k < 2 → (a b : ℕ)
@@ -94,14 +94,14 @@ pub record SameButMarks (one other : Run Panel Reply) : Type 0 where
 abbrev pub setsPageOrWrites : Record → Bool
 setsPageOrWrites r = eqb (r .lines) 2 && within Page (r .byte) || eqb (r .lines) 3
 
--- a record given to the panel by the rule before request C-12: a page set or a data write left the latch as it was
+-- a record given to the panel by the rule without request C-12: a page set or a data write leaves the latch as it was
 abbrev pub formerTurn : Panel → Record → Turn Panel Reply
 formerTurn p r =
     let o = outcomeOf p r in
     let kept = withLatch (chipAt p (r .chip) .latch) (o .answer .chip) in
     turnOf o (put p (r .chip) (if (setsPageOrWrites r) kept (o .answer .chip)) (o .ram))
 
--- whatever marks the latches begin with and whatever marks a step leaves, all but marks and kinds 1 and 2 is as the cycle has it; and the rule before
+-- whatever marks the latches begin with and whatever marks a step leaves, all but marks and kinds 1 and 2 is as the cycle has it; and the rule without
 -- request C-12 is such a step, so with the request no byte that is answered changes, none of RAM and no register but the mark
 pub record BytesStay : Type 0 where
   pub any-step : (step : Panel → Record → Turn Panel Reply) → MarksAlone step → (p q : Panel) → unmarked p ≡ unmarked q → (rs : List Record)

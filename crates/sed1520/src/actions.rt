@@ -48,8 +48,8 @@ impl Answer {
     }
 }
 
-// The number by which a byte that sets the column is refused, or 0, as for any other byte: 8 while read-modify-write is on,
-// then 14 for a column that the RAM does not have.
+// The number by which a byte is refused as a column set, else 0: 8 while read-modify-write is on, then 14 for a column that
+// the RAM does not have.
 fn column_refusal(byte: u8, modify: bool) -> u8
     ensures { λ r. ⌜ r ≡ columnRefusal byte modify ⌝ }
 {

@@ -20,6 +20,7 @@ use Rattle.trace.specs.FeedPromises.{refusesPart}
 use Rattle.trace.specs.Replay.{traceRun}
 
 module _ (n : ℕ) (own : isRecordNumber n ≡ true) where
+  -- done, 4 to 8, or 14
   ways : (eqb n 0 ≡ true) ⊎ (((leb 4 n && leb n 8) ≡ true) ⊎ (eqb n 14 ≡ true))
   ways = ⊎-elim inl (λ other. inr (either (leb 4 n && leb n 8) (eqb n 14) other)) (either (eqb n 0) ((leb 4 n && leb n 8) || eqb n 14) own)
 
