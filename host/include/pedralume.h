@@ -64,7 +64,7 @@
  * at once; a longer trace is replayed through a feed and listed in blocks.
  *
  * Commands:
- *   00-4F  column = byte; read latch stale      50-7F  column set too, but refused (14)
+ *   00-4F  column = byte; read latch stale      50-7F  column set too, but refused
  *   A0 A1  ADC forward, reverse                 A4 A5  static drive off, on
  *   A8 A9  duty 1/16, 1/32                      AE AF  display off, on
  *   B8-BB  page 0 to 3; read latch stale        C0-DF  start line 0 to 31
@@ -72,7 +72,8 @@
  *   E2     start line, column and page 0, read latch stale; the rest stays
  *   EE     read-modify-write off, column = saved column, saved column = 0, read latch stale;
  *          already off: no change
- * The other 81 bytes are no command. A stale read latch keeps its byte.
+ * In read-modify-write any column set is refused (8), else those from 50 on (14). The other 81 bytes are
+ * no command. A stale read latch keeps its byte.
  *
  * Data write: below column 80 the byte is stored and the column rises by 1; at 80 nothing is
  * stored and the column stays. Either way the read latch becomes stale with the byte it has.
@@ -354,7 +355,8 @@ extern "C" {
 
 /*
  * The column where counting stops, one past the last that RAM has; the highest in a chip record. A column
- * set is any of the 128 bytes 00 to 7F all the same: those from this one on are refused (14).
+ * set is any of the 128 bytes 00 to 7F all the same: those from this one on are refused (14, or 8 in
+ * read-modify-write, as all are).
  */
 #define PEDRALUME_COLUMN_STOP 80u
 

@@ -1425,7 +1425,7 @@ static void test_feed_refused(void)
 }
 
 /*
- * A column that RAM has not, in two parts, cut everywhere: the latch stays fresh, as a feed tells that is
+ * A column that RAM has not, in two parts, cut anywhere up to its end: the latch stays fresh, as a feed tells that is
  * opened with the chips of the one that is stopped.
  */
 static void test_feed_missing_column(unsigned chip)
@@ -1564,7 +1564,7 @@ static void test_bad_feed_chips(void)
     check_bad_feed(&n, &t, 0);
 }
 
-/* In a feed record, each of its columns; a part of length 0 is taken where they pass. */
+/* In a feed record, each of its columns; where they pass, a part of length 0 is taken, and the close finds three bytes kept over. */
 static void test_feed_columns(void)
 {
     static struct intake good, n;
@@ -1576,6 +1576,8 @@ static void test_feed_columns(void)
         PART_STAYS(&n, t.bytes, ((struct part){ FEED, RAM, 0, ANSWERS }), c.number, c.number == 0 ? 10 : c.place);
         if (c.number != 0)
             CLOSE_STAYS(&n, FEED, c.number, c.place);
+        else
+            CHECK_FEED(pedralume_feed_close(n.feed, FEED), 3, 10);
     }
 }
 

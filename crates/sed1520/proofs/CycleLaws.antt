@@ -1,4 +1,4 @@
--- The laws of the records that a repaint sends: a page set, a column set, a start line set, and a data write below the last column.
+-- The laws of the records that a repaint sends: a page set, a column set, a start line set, and a data write at a column that the chip has.
 use Prim.Native.Nat.{ℕ, _+_, _<_}
 use native.Mathlib.Omega.{arith}
 use mathlib.Core.Path.{_≡_, _∙_}

@@ -35,14 +35,14 @@ pub record ColumnSets : Type 0 where
   pub each : (c : Chip) (ram : List ℕ) → Fit c ram → (k : ℕ) → k < 2 → (n : ℕ) → n < count Column → ColumnSet c ram k n
   pub only : (r : Record) (c : Chip) (ram : List ℕ) → cycleOf r c ram .answer .number ≡ 14 → SetsMissingColumn r c ram
 
--- number 2 lets a column and a saved column pass up to the one at which counting stops, and none past it
+-- number 2 lets a column, and in read-modify-write a saved column, pass up to the one at which counting stops, and none past it
 pub record ColumnRange : Type 0 where
   pub up-to : (c : Chip) → inRange c ≡ true → (n : ℕ) → n ≤ columnStop
       → (inRange (withColumn n c) ≡ true) × (inRange (withModify true n c) ≡ true)
   pub past : (c : Chip) (n : ℕ) → columnStop < n → (inRange (withColumn n c) ≡ false) × ((on : Bool) → inRange (withModify on n c) ≡ false)
 
 -- a data write, and a data read with read-modify-write off, count up to that column, and there both leave column and RAM; from chips that number 2
--- lets pass no records lead past it
+-- lets pass, over the whole image, no records lead past it
 pub record CountingStops : Type 0 where
   pub reached : (c : Chip) (ram : List ℕ) → Fit c ram → suc (c .column) ≡ columnStop → (k : ℕ) → k < 2 → (b : ℕ)
       → (cycleOf (sent 3 k b) c ram .answer .chip .column ≡ columnStop)

@@ -1,6 +1,6 @@
 -- The laws by which the layers above know the cycle: what the records that they send do to the registers that they look at and to the RAM, and what
--- any record can change of what a frame looks at. The read latch, the saved column, refused column sets and
--- data writes where counting has stopped are left unsaid.
+-- any record can change of what a frame looks at. The read latch, the saved column, the registers after a
+-- refused column set and where the column goes from the stop on are left unsaid.
 use Prim.Native.Nat.{ℕ, _+_, _<_}
 use mathlib.Core.Path.{_≡_}
 use mathlib.Core.Bool.{Bool, true, false}

@@ -103,7 +103,7 @@ fn kind_of(byte: u8) -> Found
         0b1010_1110..=0b1010_1111 => Found::Of(Kind::Display), //   4.1   1 0 1 0 1 1 1 D         AE, AF
         0b1100_0000..=0b1101_1111 => Found::Of(Kind::StartLine), // 4.2   1 1 0 A4 A3 A2 A1 A0    C0 to DF (0 to 31)
         0b1011_1000..=0b1011_1011 => Found::Of(Kind::Page), //      4.3   1 0 1 1 1 0 A1 A0       B8 to BB (0 to 3)
-        0b0000_0000..=0b0111_1111 => Found::Of(Kind::Column), //    4.4   0 A6 A5 A4 A3 A2 A1 A0  00 to 7F (seven bits: 0 to 127; a chip has 0 to 79)
+        0b0000_0000..=0b0111_1111 => Found::Of(Kind::Column), //    4.4   0 A6 A5 A4 A3 A2 A1 A0  00 to 7F (seven bits: 0 to 127; the sheet: 0 to 79)
         0b1010_0000..=0b1010_0001 => Found::Of(Kind::Adc), //       4.8   1 0 1 0 0 0 0 D         A0, A1
         0b1010_0100..=0b1010_0101 => Found::Of(Kind::Static), //    4.9   1 0 1 0 0 1 0 D         A4, A5 (A5 is on, by the table; 4.9 says A4)
         0b1010_1000..=0b1010_1001 => Found::Of(Kind::Duty), //      4.10  1 0 1 0 1 0 0 D         A8, A9 (the table's code; 4.10 prints that of 4.9)

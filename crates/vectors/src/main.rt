@@ -1,5 +1,5 @@
-// Runs the sheet's worked sequences, request C-12's, refused records and document 01's listing through the cycle, and checks
-// every number, kind and byte that it answers.
+// Runs the sheet's worked sequences, those of requests C-12 and C-15, refused records and document 01's listing through the
+// cycle, and checks every number, kind and byte that it answers.
 ghost use Prim.Native.Nat.{_≤_};
 ghost use mathlib.Core.Path.{_≡_};
 ghost use lib.ListN.{length};
@@ -106,7 +106,7 @@ const COUNTING_STOP: [u8; 119] = *b"\
 // Request C-15: the slip. Column 100 (64 hex) is refused with number 14, and so are the first and the last of the columns
 // that do not exist, 50 and 7F: what is written next goes to the column counted so far, and a fresh latch stays fresh. In
 // read-modify-write it is number 8. Column 79 exists, and counting reaches 80, which read-modify-write saves and returns to.
-const MISSING_COLUMN: [u8; 168] = *b"\
+const MISSING_COLUMN: [u8; 175] = *b"\
     \x02\x00\xBA\x00\x00\x00\x00\
     \x02\x00\x0A\x00\x00\x00\x00\
     \x03\x00\x11\x00\x00\x00\x00\
@@ -126,6 +126,7 @@ const MISSING_COLUMN: [u8; 168] = *b"\
     \x02\x00\xE0\x00\x00\x00\x00\
     \x02\x00\xEE\x00\x00\x00\x00\
     \x03\x00\x44\x00\x00\x00\x00\
+    \x05\x00\x00\x00\x00\x02\x00\
     \x05\x00\x00\x00\x00\x02\x00\
     \x02\x00\x4F\x00\x00\x00\x00\
     \x05\x00\x00\x00\x00\x02\x00\

@@ -51,8 +51,8 @@ fn same_registers(one: Chip, other: Chip) -> bool
                 & ((one.reverse == other.reverse) & (one.start_line == other.start_line))))
 }
 
-// The segment that shows the column at which a chip stands; past the last segment the column is not shown. Where counting
-// has stopped nothing is written, and any number will do.
+// The segment that shows the column at which a chip stands; past the last segment the column is not shown. Past a page's
+// last column nothing is written, and any number will do.
 fn segment_at(chip: Chip) -> usize
     ensures { λ r. ⌜ r ≡ columnOf chip (chip .column) ⌝ }
 {

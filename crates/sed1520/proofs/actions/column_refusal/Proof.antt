@@ -13,9 +13,12 @@ column-refusal-spec =
     (tie.spec
     (λ c κs. search needs)
     (λ c. let s = c .before .before .args in sym (no-column-set (s .byte) (s .modify) (omega (arith, c .before .count .ensures))))
-    (λ c. let s = c .before .before .before .args in
-    sym (column-locked (s .byte) (s .modify) (omega (arith, c .before .before .count .ensures)) (c .if2 .taken)))
-    (λ c. let s = c .before .before .before .before .args in
-    sym (column-missing (s .byte) (s .modify) (omega (arith, c .before .before .before .count .ensures)) (c .before .if2 .left) (c .if3 .taken)))
-    (λ c. let s = c .before .before .before .before .args in
-    sym (column-taken (s .byte) (s .modify) (omega (arith, c .before .before .before .count .ensures)) (c .before .if2 .left) (c .if3 .left))))
+    (λ c. let asked = c .before .before in
+    let s = asked .before .args in
+    sym (column-locked (s .byte) (s .modify) (omega (arith, asked .count .ensures)) (c .if2 .taken)))
+    (λ c. let asked = c .before .before .before in
+    let s = asked .before .args in
+    sym (column-missing (s .byte) (s .modify) (omega (arith, asked .count .ensures)) (c .before .if2 .left) (omega arith)))
+    (λ c. let asked = c .before .before .before in
+    let s = asked .before .args in
+    sym (column-taken (s .byte) (s .modify) (omega (arith, asked .count .ensures)) (c .before .if2 .left) (omega arith))))
