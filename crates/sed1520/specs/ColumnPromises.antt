@@ -30,7 +30,7 @@ pub record SetsMissingColumn (r : Record) (c : Chip) (ram : List ℕ) : Type 0 w
   pub to : r .byte < first Column + count Column
   pub off : c .modify ≡ false
 
--- every argument of a column set is dealt with so, on either chip; and number 14 is given for its cause alone, whatever the record, the chip and its RAM
+-- every argument of a column set is dealt with so, on either chip; and number 14 is given for its cause alone, whatever the record, chip and RAM
 pub record ColumnSets : Type 0 where
   pub each : (c : Chip) (ram : List ℕ) → Fit c ram → (k : ℕ) → k < 2 → (n : ℕ) → n < count Column → ColumnSet c ram k n
   pub only : (r : Record) (c : Chip) (ram : List ℕ) → cycleOf r c ram .answer .number ≡ 14 → SetsMissingColumn r c ram

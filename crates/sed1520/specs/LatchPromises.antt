@@ -101,8 +101,8 @@ formerTurn p r =
     let kept = withLatch (chipAt p (r .chip) .latch) (o .answer .chip) in
     turnOf o (put p (r .chip) (if (setsPageOrWrites r) kept (o .answer .chip)) (o .ram))
 
--- whatever marks the latches begin with and whatever marks a step leaves, all but marks and kinds 1 and 2 is as the cycle has it; and the rule without
--- request C-12 is such a step, so with the request no byte that is answered changes, none of RAM and no register but the mark
+-- whatever marks the latches begin with and whatever marks a step leaves, all but marks and kinds 1 and 2 is as the cycle has it; and the rule
+-- without request C-12 is such a step, so with the request no byte that is answered changes, none of RAM and no register but the mark
 pub record BytesStay : Type 0 where
   pub any-step : (step : Panel → Record → Turn Panel Reply) → MarksAlone step → (p q : Panel) → unmarked p ≡ unmarked q → (rs : List Record)
       → SameButMarks (runOf step p rs) (panelRun q rs)
