@@ -12,8 +12,8 @@
  *
  * Chip 0 is the left one, chip 1 the right one.
  *
- * Words. The papers that fix the behaviour, documents 01 and 02, say "holder" for the read latch,
- * "room" for repaint's output buffer and changes' entries buffer, and "glass" for the panel.
+ * All formats are told below; docs/FORMATS.md in the project's folder tells them too, for readers who do
+ * not program in C. What a number means in words: pedralume_words.
  *
  *
  * WHO OWNS WHAT
@@ -61,7 +61,7 @@
  *   data   the byte written, or for a read the byte that the recorder saw
  *
  * A trace has no header and may be empty. Replay and changes take at most 65,536 bytes (16,384 records)
- * at once; a longer trace is replayed through a feed and listed in blocks.
+ * at once; a longer trace is replayed through a feed and listed in blocks (LONGER TRACES, below).
  *
  * Commands:
  *   00-4F  column = byte; read latch stale      50-7F  column set too, but refused
@@ -158,9 +158,8 @@
  * without numbers 1 to 3, and that each part is lent answers enough and RAM as the part before left it.
  * Then the answers joined, chips, RAM, counts, number and place are those of replay, and the close
  * gives this number and place too. A part is at most 65,536 bytes long, all parts together at most
- * 4,294,967,295 records: to replay a trace over 65,536 bytes, open a feed, give it the trace in parts
- * of at most 65,536 bytes each, and close it. Past 13, open a feed anew with the chips, and give it the
- * bytes kept over before the part that was not taken.
+ * 4,294,967,295 records. Past 13, open a feed anew with the chips, and give it the bytes kept over before
+ * the part that was not taken.
  *
  * The answers to a part begin at the start of the buffer lent with it. It must have 2 bytes for each
  * record that the part completes, which are (kept count + part length) / 4, rounded down; for a feed
@@ -190,8 +189,65 @@
  * Chips and RAM are those before the trace and are only read. The entries buffer may have any length:
  * 8 bytes for each record of the trace are always enough, for any trace PEDRALUME_ENTRIES_MAX_BYTES. One
  * of length 0 asks how many entries there are: 15 has their number as place, and 0 is given where there
- * are none. To list a trace over 65,536 bytes, list a block of whole records, replay it, so that chips and
- * RAM are those before the next, and so on; records then count from the block's first.
+ * are none.
+ *
+ *
+ * LONGER TRACES
+ *
+ * A trace over 65,536 bytes is replayed through a feed: open it, give it the trace in parts of at most
+ * 65,536 bytes each, close it. A whole trace in memory:
+ *
+ *   static uint64_t replay_long(uint8_t *feed, uint8_t *ram, const uint8_t *chips,
+ *                               const uint8_t *trace, size_t length)
+ *   {
+ *       static uint8_t given[PEDRALUME_PART_MAX_BYTES / PEDRALUME_RECORD_BYTES * PEDRALUME_ANSWER_BYTES];
+ *       size_t at, part;
+ *       uint64_t answer = pedralume_feed_open(feed, PEDRALUME_FEED_BYTES, chips, PEDRALUME_CHIPS_BYTES);
+ *       for (at = 0; pedralume_number(answer) == PEDRALUME_DONE && at < length; at += part) {
+ *           part = length - at < PEDRALUME_PART_MAX_BYTES ? length - at : PEDRALUME_PART_MAX_BYTES;
+ *           answer = pedralume_feed_part(feed, PEDRALUME_FEED_BYTES, ram, PEDRALUME_RAM_BYTES,
+ *                                        trace + at, part, given, sizeof given);
+ *       }
+ *       return pedralume_number(answer) == PEDRALUME_DONE ? pedralume_feed_close(feed, PEDRALUME_FEED_BYTES)
+ *                                                         : answer;
+ *   }
+ *
+ * After each part given has its answers. At the end the first 24 bytes of the feed record are the chips,
+ * and the counts are in it; take what is given back apart with pedralume_number and pedralume_feed_place.
+ * With the five records of the first example below 20,000 times over, 400,000 bytes, from fresh chips and
+ * RAM all 0, the number is 0, the place 100,000, the reads compared 20,000 and those that differ 0. Other
+ * than in replay, a last record that is cut is found by the close (3), when all before it are replayed.
+ *
+ * A trace over 65,536 bytes is listed in blocks of whole records: list a block by changes, then replay it,
+ * so that chips and RAM are those before the next, and so on. Changes counts from the block's first record:
+ *
+ *   static uint64_t list_long(uint8_t *chips, uint8_t *ram, const uint8_t *trace, size_t length)
+ *   {
+ *       static uint8_t entries[PEDRALUME_ENTRIES_MAX_BYTES];
+ *       static uint8_t given[PEDRALUME_TRACE_MAX_BYTES / PEDRALUME_RECORD_BYTES * PEDRALUME_ANSWER_BYTES];
+ *       size_t at, block;
+ *       uint64_t answer = PEDRALUME_DONE;
+ *       for (at = 0; at < length; at += block) {
+ *           block = length - at < PEDRALUME_TRACE_MAX_BYTES ? length - at : PEDRALUME_TRACE_MAX_BYTES;
+ *           answer = pedralume_changes(chips, PEDRALUME_CHIPS_BYTES, ram, PEDRALUME_RAM_BYTES,
+ *                                      trace + at, block, entries, sizeof entries);
+ *           if (pedralume_number(answer) != PEDRALUME_DONE)
+ *               break;
+ *           for (unsigned i = 0; i < pedralume_place(answer); i++) {
+ *               const uint8_t *entry = entries + PEDRALUME_ENTRY_BYTES * i;
+ *               size_t record = at / PEDRALUME_RECORD_BYTES + pedralume_entry_record(entry);
+ *               printf("%zu %u %u\n", record, pedralume_entry_left(entry), pedralume_entry_right(entry));
+ *           }
+ *           pedralume_replay(chips, PEDRALUME_CHIPS_BYTES, ram, PEDRALUME_RAM_BYTES,
+ *                            trace + at, block, given, sizeof given);
+ *       }
+ *       return answer;
+ *   }
+ *
+ * With three records, left display on (AF), static drive on (A5) and off (A4), 10,000 times over, 120,000
+ * bytes, from fresh chips and RAM all 0, it prints 20,000 lines, the first 1 1952 0, the last 29999 1952 0.
+ * A block with a refused record is refused whole, with the place counted from the block's first record;
+ * the block's first 4 * place bytes, given alone, are listed. In both, the static buffers are for one thread.
  *
  *
  * WHAT EACH CALL GIVES BACK: number + 256 * place + 2^24 * compared + 2^40 * differing; for the feed's
@@ -267,10 +323,14 @@
  *   uint64_t answer = pedralume_replay(chips, sizeof chips, ram, sizeof ram,
  *                                      trace, sizeof trace, answers, sizeof answers);
  *   if (pedralume_number(answer) != PEDRALUME_DONE)
- *       printf("number %u at %u\n", pedralume_number(answer), pedralume_place(answer));
+ *       printf("number %u at %u: %s\n", pedralume_number(answer), pedralume_place(answer),
+ *              pedralume_words(pedralume_number(answer)));
  *   else
- *       printf("%u of %u compared reads differ\n",            // 0 of 1
+ *       printf("%u of %u compared reads differ\n",
  *              pedralume_differing(answer), pedralume_compared(answer));
+ *
+ * It prints 0 of 1 compared reads differ. With 06 for the first byte of the last record it prints
+ * number 6 at 4: RD and WR equal.
  *
  * A repaint, from chips that are ready, sent to the model as it would be to the panel:
  *
@@ -280,8 +340,13 @@
  *   answer = pedralume_repaint(chips, sizeof chips, picture, sizeof picture, records, sizeof records);
  *   if (pedralume_number(answer) == PEDRALUME_DONE)
  *       pedralume_replay(chips, sizeof chips, ram, sizeof ram, records, sizeof records, given, sizeof given);
+ *   else
+ *       printf("%s chip: %s\n", pedralume_place(answer) == 0 ? "left" : "right",
+ *              pedralume_words(pedralume_number(answer)));
  *
- * A recorder's loop, from chips and RAM as above. take_bytes gives how many bytes it has put into
+ * From the chips that the first example leaves it prints left chip: display off or static drive on.
+ *
+ * A recorder's loop, from chips and RAM as at the start. take_bytes gives how many bytes it has put into
  * part, 0 at the end of the recording:
  *
  *   uint8_t feed[PEDRALUME_FEED_BYTES], part[512];
@@ -296,8 +361,12 @@
  *   }
  *   if (pedralume_number(answer) == PEDRALUME_DONE)
  *       answer = pedralume_feed_close(feed, sizeof feed);     // 3: the recording ends inside a record
- *   printf("end %u %u %u %u\n", pedralume_number(answer), pedralume_feed_place(answer),
- *          pedralume_feed_compared(feed), pedralume_feed_differing(feed));
+ *   printf("end %u %u %u %u: %s\n", pedralume_number(answer), pedralume_feed_place(answer),
+ *          pedralume_feed_compared(feed), pedralume_feed_differing(feed),
+ *          pedralume_words(pedralume_number(answer)));
+ *
+ * For the five records above it prints 0 0 00, then 1 0 00, then 2 0 00, then 3 2 00, then 4 1 A5, then
+ * end 0 5 1 0: done.
  *
  * The records that changed what the panel shows, from fresh chips and RAM all 0:
  *
@@ -333,6 +402,21 @@
 #ifdef __cplusplus
 extern "C" {
 #endif
+
+/*
+ * The version. The first number rises with a change of what a call gives back or of a format, the second
+ * with what is added beside that, the third with any other change. It is said here and nowhere else.
+ */
+#define PEDRALUME_VERSION_MAJOR 1
+#define PEDRALUME_VERSION_MINOR 0
+#define PEDRALUME_VERSION_PATCH 0
+
+/* The three as one text, "1.0.0"; the two before it only help to make it. */
+#define PEDRALUME_TEXT_OF(tokens) #tokens
+#define PEDRALUME_VERSION_OF(major, minor, patch) \
+    PEDRALUME_TEXT_OF(major) "." PEDRALUME_TEXT_OF(minor) "." PEDRALUME_TEXT_OF(patch)
+#define PEDRALUME_VERSION \
+    PEDRALUME_VERSION_OF(PEDRALUME_VERSION_MAJOR, PEDRALUME_VERSION_MINOR, PEDRALUME_VERSION_PATCH)
 
 /* Sizes in bytes. */
 #define PEDRALUME_CHIP_BYTES 12u
@@ -436,6 +520,31 @@ static inline unsigned pedralume_number(uint64_t answer) { return (unsigned)(ans
 static inline unsigned pedralume_place(uint64_t answer) { return (unsigned)(answer >> 8 & 0xFFFFu); }
 static inline unsigned pedralume_compared(uint64_t answer) { return (unsigned)(answer >> 24 & 0xFFFFu); }
 static inline unsigned pedralume_differing(uint64_t answer) { return (unsigned)(answer >> 40 & 0xFFFFu); }
+
+/* What a number means; the table above says more. Never null, for any number, and never freed. */
+static inline const char *pedralume_words(unsigned number)
+{
+    switch (number) {
+    case PEDRALUME_DONE: return "done";
+    case PEDRALUME_BAD_LENGTH: return "a buffer of a wrong length";
+    case PEDRALUME_BAD_CHIP:
+        return "a chip record, or the rest of a feed record, with a field out of its range";
+    case PEDRALUME_CUT_TRACE: return "a trace that ends inside a record";
+    case PEDRALUME_SPARE_BITS: return "spare line bits or the fourth byte not 0";
+    case PEDRALUME_NO_SUCH_CHIP: return "a chip over 1";
+    case PEDRALUME_EQUAL_STROBES: return "RD and WR equal";
+    case PEDRALUME_NO_COMMAND: return "a byte that is no command";
+    case PEDRALUME_COLUMN_IN_RMW: return "a column set while read-modify-write is on";
+    case PEDRALUME_NOT_SHOWING: return "display off or static drive on";
+    case PEDRALUME_WRONG_DUTY: return "duty 1/32";
+    case PEDRALUME_WRONG_START_LINE: return "a start line neither 0 nor 16";
+    case PEDRALUME_RMW_ON: return "read-modify-write on";
+    case PEDRALUME_TOO_MANY: return "over 4,294,967,295 records";
+    case PEDRALUME_NO_SUCH_COLUMN: return "a column set over 79 (4F hex), the last column of RAM";
+    case PEDRALUME_SHORT_ENTRIES: return "an entries buffer too short for the list";
+    default: return "a number that this version does not know";
+    }
+}
 
 /* The place that a call of a feed gives. */
 static inline uint32_t pedralume_feed_place(uint64_t answer) { return (uint32_t)(answer >> 8 & 0xFFFFFFFFu); }
