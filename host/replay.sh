@@ -1,0 +1,66 @@
+# What ../replay and the installed pedralume-replay share: they read it with `.`, or begin with what it needs, and have set
+#   $name      what the user calls it by
+#   $program   the proved program, which prints and gives no status
+#   ready      a function that has the program there, or fails; called once the arguments are right
+# shellcheck shell=sh disable=SC2154
+
+usage() {
+    cat <<END
+Usage: $name [FILE]
+
+Replays the bus records of FILE, or of standard input, on two fresh chips with RAM all 0. Prints
+record, kind and byte of each answer, then the end line: number, place, reads compared, reads that
+differ from the trace.
+
+  -h, --help  print this
+
+Status: 0 the whole trace is replayed; 1 it is refused, or there is no whole end line (it could not
+be read to its end, or standard output not be written, or the program not be built or found); 2 the
+argument is at fault: an unknown option, more than one, or a file or a standard input that is
+missing, a directory or not readable.
+END
+}
+fail() { # STATUS WORDS...
+    status=$1
+    shift
+    echo "$name: $*" >&2
+    exit "$status"
+}
+
+[ $# -le 1 ] || fail 2 "more than one file: \"$2\"; see $name --help"
+case ${1-} in
+-h | --help)
+    usage 2>/dev/null || fail 1 "standard output cannot be written"
+    exit
+    ;;
+-*) fail 2 "unknown option \"$1\"; see $name --help" ;;
+esac
+if [ $# -eq 1 ]; then
+    [ -e "$1" ] || fail 2 "$1: no such file"
+    [ -r "$1" ] || fail 2 "$1: cannot be read"
+    exec <"$1"
+fi
+[ ! -d /dev/stdin ] || fail 2 "${1-standard input}: is a directory"
+ready
+
+# the text with a dot after it, which keeps its last line end
+text=$("$program"; echo .)
+trap '' PIPE
+printf %s "${text%.}" 2>/dev/null || fail 1 "standard output cannot be written"
+# shellcheck disable=SC2046
+set -- $(printf %s "$text" | tail -n 2)
+[ "$# ${1-} ${6-}" = "6 end ." ] || fail 1 "no whole end line: the trace could not be read"
+# the words for a record are those of pedralume_words; test/words.sh holds them to that
+case $2 in
+0) exit 0 ;;
+1) fail 1 "refused with number 1: a trace over 65,536 bytes" ;;
+3) fail 1 "refused with number 3: a length that is no multiple of 4 (whole records: $3)" ;;
+4) why="spare line bits or the fourth byte not 0" ;;
+5) why="a chip over 1" ;;
+6) why="RD and WR equal" ;;
+7) why="a byte that is no command" ;;
+8) why="a column set while read-modify-write is on" ;;
+14) why="a column set over 79 (4F hex), the last column of RAM" ;;
+*) why="which this program does not know" ;;
+esac
+fail 1 "refused with number $2 at record $3: $why"
