@@ -1,133 +1,147 @@
-/* What the ways to show share: messages, records to the panel, and its frame as text and as PBM. */
+/* What the panel shows, as text and as PBM. */
+#define _POSIX_C_SOURCE 200809L
 #include "show.h"
 
 #include <errno.h>
-#include <stdio.h>
+#include <stdlib.h>
 #include <string.h>
+#include <sys/ioctl.h>
+#include <unistd.h>
 
-/* ---- messages ---- */
-
-bool file_failed(const char *path, const char *what)
+bool take_frame(const struct run *run, uint8_t frame[PEDRALUME_FRAME_BYTES])
 {
-    fprintf(stderr, "%s: %s: %s\n", path, what, errno != 0 ? strerror(errno) : "reason unknown");
-    return false;
-}
-
-const char *meaning(unsigned number)
-{
-    static const char *const words[] = {
-        [PEDRALUME_BAD_LENGTH] = "a trace over 65,536 bytes",
-        [PEDRALUME_BAD_CHIP] = "a chip with a field out of its range",
-        [PEDRALUME_CUT_TRACE] = "a length that is no multiple of 4",
-        [PEDRALUME_SPARE_BITS] = "spare line bits or the fourth byte not 0",
-        [PEDRALUME_NO_SUCH_CHIP] = "a chip over 1",
-        [PEDRALUME_EQUAL_STROBES] = "RD and WR equal",
-        [PEDRALUME_NO_COMMAND] = "a byte that is no command",
-        [PEDRALUME_COLUMN_IN_RMW] = "a column set while read-modify-write is on",
-        [PEDRALUME_NOT_SHOWING] = "display off or static drive on",
-        [PEDRALUME_WRONG_DUTY] = "duty 1/32",
-        [PEDRALUME_WRONG_START_LINE] = "a start line neither 0 nor 16",
-        [PEDRALUME_RMW_ON] = "read-modify-write on",
-        [PEDRALUME_TOO_MANY] = "over 4,294,967,295 records",
-        [PEDRALUME_NO_SUCH_COLUMN] = "a column set over 79 (4F hex), the last column of RAM",
-        [PEDRALUME_SHORT_ENTRIES] = "more entries than there is room for",
-    };
-    bool known = number < sizeof words / sizeof words[0] && words[number] != NULL;
-    return known ? words[number] : "which this program does not know";
-}
-
-/* Whether its place is a record. */
-static bool refuses_record(unsigned number)
-{
-    return (number >= PEDRALUME_SPARE_BITS && number <= PEDRALUME_COLUMN_IN_RMW) || number == PEDRALUME_NO_SUCH_COLUMN;
-}
-
-bool trace_refused(const char *name, unsigned number, uint32_t place)
-{
-    if (refuses_record(number))
-        fprintf(stderr, "%s: record %lu refused: number %u, %s\n", name, (unsigned long)place, number, meaning(number));
-    else if (number == PEDRALUME_CUT_TRACE)
-        fprintf(stderr, "%s: refused: number %u, %s (whole records: %lu)\n", name, number, meaning(number),
-                (unsigned long)place);
-    else
-        fprintf(stderr, "%s: refused: number %u, %s\n", name, number, meaning(number));
-    return false;
-}
-
-/* ---- the panel ---- */
-
-bool send_records(struct panel *panel, const char *name, const uint8_t *records, size_t length)
-{
-    static uint8_t answers[RECORDS_KEPT * PEDRALUME_ANSWER_BYTES];
-    uint64_t answer = pedralume_replay(panel->chips, sizeof panel->chips, panel->ram, sizeof panel->ram,
-                                       records, length, answers, sizeof answers);
-    return pedralume_number(answer) == PEDRALUME_DONE
-        || trace_refused(name, pedralume_number(answer), pedralume_place(answer));
-}
-
-bool take_frame(const uint8_t *chips, const uint8_t *ram, uint8_t *frame)
-{
-    uint64_t answer = pedralume_frame(chips, PEDRALUME_CHIPS_BYTES, ram, PEDRALUME_RAM_BYTES, frame, PEDRALUME_FRAME_BYTES);
+    uint64_t answer = pedralume_frame(run->feed, PEDRALUME_CHIPS_BYTES, run->ram, sizeof run->ram,
+                                      frame, PEDRALUME_FRAME_BYTES);
     if (pedralume_number(answer) == PEDRALUME_DONE)
         return true;
-    fprintf(stderr, "show: the frame is refused: number %u\n", pedralume_number(answer));
+    fprintf(stderr, "show: the frame is refused: number %u, %s\n", pedralume_number(answer),
+            pedralume_words(pedralume_number(answer)));
     return false;
 }
 
-bool lit(const uint8_t *frame, unsigned x, unsigned y)
+static bool lit(const uint8_t *frame, unsigned x, unsigned y)
 {
     return (frame[x + WIDTH * (y / 8)] >> (y % 8) & 1) != 0;
 }
 
+/* ---- the form ---- */
+
+enum {
+    BLOCKS,     /* two pixels above each other a character */
+    BRAILLE,    /* two by four a character */
+    ASCII,      /* as blocks */
+    HALVES      /* as ASCII, the right half below the left one */
+};
+
+static int form = BLOCKS;
+
+/* 0 where standard output is no terminal; what is usual where a terminal does not know its width. */
+static unsigned terminal_width(void)
+{
+    struct winsize size;
+    if (!isatty(STDOUT_FILENO))
+        return 0;
+    return ioctl(STDOUT_FILENO, TIOCGWINSZ, &size) == 0 && size.ws_col > 0 ? size.ws_col : 80;
+}
+
+/* By its name: a locale may be set that is not installed, on a terminal that shows UTF-8 all the same. */
+static bool locale_is_utf8(void)
+{
+    static const char *const variables[] = { "LC_ALL", "LC_CTYPE", "LANG" };
+    for (size_t i = 0; i < sizeof variables / sizeof variables[0]; i++) {
+        const char *name = getenv(variables[i]);
+        if (name != NULL && name[0] != '\0')
+            return strstr(name, "UTF-8") != NULL || strstr(name, "utf8") != NULL || strstr(name, "utf-8") != NULL
+                || strstr(name, "UTF8") != NULL;
+    }
+    return false;
+}
+
+/* The frame with its edges is 124 characters wide, in braille 63. */
+bool choose_form(const char *name)
+{
+    unsigned width = terminal_width();
+    bool narrow = width > 0 && width < WIDTH + 2;
+    if (name == NULL)
+        name = !locale_is_utf8() ? "ascii" : narrow ? "braille" : "blocks";
+    if (strcmp(name, "blocks") == 0)
+        form = BLOCKS;
+    else if (strcmp(name, "braille") == 0)
+        form = BRAILLE;
+    else if (strcmp(name, "ascii") == 0)
+        form = narrow ? HALVES : ASCII;
+    else
+        return wrong_argument("--form takes blocks, braille or ascii, not", name);
+    return true;
+}
+
 /* ---- the frame as text ---- */
 
-static void print_edge(const char *left, const char *right)
+static bool in_ascii(void)
 {
-    fputs(left, stdout);
-    for (unsigned x = 0; x < WIDTH; x++)
-        fputs("─", stdout);
-    puts(right);
+    return form == ASCII || form == HALVES;
 }
 
-/* Pixel rows y and y + 1. */
-static void print_row_pair(const uint8_t *frame, unsigned y)
+static void print_edge(const char *left, const char *right, unsigned width)
+{
+    fputs(in_ascii() ? "+" : left, stdout);
+    for (unsigned x = 0; x < width; x++)
+        fputs(in_ascii() ? "-" : "─", stdout);
+    puts(in_ascii() ? "+" : right);
+}
+
+static void print_pair(const uint8_t *frame, unsigned x, unsigned y)
 {
     static const char *const blocks[2][2] = { { " ", "▄" }, { "▀", "█" } };
-    fputs("│", stdout);
-    for (unsigned x = 0; x < WIDTH; x++)
-        fputs(blocks[lit(frame, x, y)][lit(frame, x, y + 1)], stdout);
-    puts("│");
+    static const char *const ascii[2][2] = { { " ", "." }, { "'", "#" } };
+    fputs((in_ascii() ? ascii : blocks)[lit(frame, x, y)][lit(frame, x, y + 1)], stdout);
 }
 
-bool all_printed(void)
+/* The character U+2800 and, in Unicode's order, a bit for each of its eight dots. */
+static void print_dots(const uint8_t *frame, unsigned x, unsigned y)
 {
-    bool good = fflush(stdout) == 0 && !ferror(stdout);
-    return good || file_failed("standard output", "cannot be written");
+    static const unsigned dots[4][2] = { { 0x01, 0x08 }, { 0x02, 0x10 }, { 0x04, 0x20 }, { 0x40, 0x80 } };
+    unsigned code = 0;
+    for (unsigned row = 0; row < 4; row++)
+        for (unsigned column = 0; column < 2; column++)
+            if (lit(frame, x + column, y + row))
+                code |= dots[row][column];
+    putchar(0xE2);
+    putchar((int)(0xA0 | code >> 6));
+    putchar((int)(0x80 | (code & 0x3F)));
 }
 
-bool print_frame(const uint8_t *frame)
+/* The columns from the first to before the last, with edges. */
+static void print_columns(const uint8_t *frame, unsigned first, unsigned last)
 {
-    errno = 0;
-    print_edge("┌", "┐");
-    for (unsigned y = 0; y < HEIGHT; y += 2)
-        print_row_pair(frame, y);
-    print_edge("└", "┘");
-    return all_printed();
+    unsigned wide = form == BRAILLE ? 2 : 1, high = form == BRAILLE ? 4 : 2;
+    print_edge("┌", "┐", (last - first) / wide);
+    for (unsigned y = 0; y < HEIGHT; y += high) {
+        fputs(in_ascii() ? "|" : "│", stdout);
+        for (unsigned x = first; x < last; x += wide)
+            (form == BRAILLE ? print_dots : print_pair)(frame, x, y);
+        puts(in_ascii() ? "|" : "│");
+    }
+    print_edge("└", "┘", (last - first) / wide);
+}
+
+void print_frame(const uint8_t *frame)
+{
+    unsigned step = form == HALVES ? WIDTH / 2 : WIDTH;
+    for (unsigned x = 0; x < WIDTH; x += step)
+        print_columns(frame, x, x + step);
+}
+
+void go_home(bool first)
+{
+    if (isatty(STDOUT_FILENO))
+        fputs(first ? "\033[H\033[J" : "\033[H", stdout);
 }
 
 /* ---- the frame as PBM ---- */
 
-FILE *open_pbm(const char *path)
-{
-    errno = 0;
-    FILE *file = fopen(path, "wb");
-    if (file == NULL)
-        file_failed(path, "cannot be written");
-    return file;
-}
-
 /* The leftmost pixel is the highest bit; the bits past the last pixel are 0. */
-static bool write_pbm_row(FILE *file, const uint8_t *frame, unsigned y)
+static bool write_row(FILE *file, const uint8_t *frame, unsigned y)
 {
     uint8_t row[(WIDTH + 7) / 8] = { 0 };
     for (unsigned x = 0; x < WIDTH; x++)
@@ -141,19 +155,12 @@ bool add_picture(FILE *file, const char *path, const char *comment, const uint8_
     errno = 0;
     bool good = fprintf(file, "P4\n%s%d %d\n", comment, WIDTH, HEIGHT) > 0;
     for (unsigned y = 0; good && y < HEIGHT; y++)
-        good = write_pbm_row(file, frame, y);
+        good = write_row(file, frame, y);
     return good || file_failed(path, "cannot be written");
-}
-
-bool close_pbm(FILE *file, const char *path, bool all_written)
-{
-    errno = 0;
-    bool closed = fclose(file) == 0;
-    return all_written && (closed || file_failed(path, "cannot be written"));
 }
 
 bool write_frame(const char *path, const uint8_t *frame)
 {
-    FILE *file = open_pbm(path);
-    return file != NULL && close_pbm(file, path, add_picture(file, path, "", frame));
+    FILE *file = open_output(path);
+    return file != NULL && close_output(file, path, add_picture(file, path, "", frame));
 }

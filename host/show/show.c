@@ -1,47 +1,58 @@
 /*
- * show: what the panel shows after a trace, or within a repaint that follows it, as text and as a
- * PBM file; or, in changes.c, when that changed; or, in live.c, while the records come.
+ * show: what the panel shows after a trace, or within a repaint that follows it, as text and as PBM; or
+ * when that changed (changes.c, pages.c), or after every record (every.c), or while records come (live.c).
  *
- * Here, records from either source are a batch. With --repaint, the trace's batch is sent whole. The
- * last batch is cut by --at, then sent to the panel, whose frame is taken after it; or its changes are
- * listed. Nothing is shown or written unless all of that is done.
+ * The trace is sent first, or as much of it as --at says; with --repaint, then the repaint. Nothing is
+ * shown or written unless all of that is accepted. What is to be gone through again is kept meanwhile.
  */
 #include "show.h"
 
-#include <errno.h>
-#include <stdio.h>
 #include <stdlib.h>
 #include <string.h>
+#include <unistd.h>
 
-enum {
-    PICTURE_HEIGHT = 16,
-    /* More than a picture takes, with room for comments. */
-    PBM_KEPT = 65536,
-    STATUS_ARGUMENTS = 2
-};
+const char program[] = "show";
 
-static const char usage[] =
-    "Usage: show TRACE [--repaint PICTURE] [--at N] [--changes] [--pbm FILE]\n"
+const char usage[] =
+    "Usage: show TRACE [--repaint PICTURE] [--at N] [--changes] [--every] [--pbm FILE] ...\n"
     "       show --live\n"
     "\n"
     "Sends the bus records of the file TRACE to two fresh chips with RAM all 0, and shows the\n"
-    "122 by 32 panel as it is then. A text row is two pixel rows.\n"
+    "122 by 32 panel as it is then. TRACE may be - for standard input, and has any length.\n"
     "\n"
+    "  --start FILE       begin with the chips and RAM of FILE, which --save wrote; TRACE may then be\n"
+    "                     left out\n"
+    "  --save FILE        also write the chips and RAM as they are at the end to FILE\n"
     "  --repaint PICTURE  after the whole trace, send the 254 records that repaint the panel with\n"
-    "                     PICTURE, a PBM (P1 or P4) of 122 by 16, 1 = lit\n"
+    "                     PICTURE, a PBM (P1 or P4) of 122 by 16, or by 32 with a blank lower half;\n"
+    "                     1 = lit\n"
     "  --at N             send only the first N records of the trace; with --repaint, only the\n"
     "                     first N records of the repaint; N may be 0\n"
-    "  --changes          instead of the panel, list each record that changed what it shows, with the\n"
-    "                     pixels changed in the left and in the right half; with --repaint, only\n"
-    "                     records of the repaint; the first record is record 0\n"
-    "  --pbm FILE         also write the panel to FILE, a binary PBM (P4) of 122 by 32, 1 = lit; with\n"
-    "                     --changes, such a picture after each listed record, one after the other, a\n"
-    "                     comment naming the record; where none is listed, one of the panel as it is\n"
+    "  --changes          instead of the panel at the end, each record that changed what it shows, with\n"
+    "                     the pixels changed in the left and in the right half; with --repaint, only\n"
+    "                     records of the repaint; the first record is record 0. A line each; where\n"
+    "                     standard input and output are a terminal, a page each, with the panel\n"
+    "  --list             with --changes: lines on a terminal too\n"
+    "  --every            the panel before the first record and after each of them, one after the\n"
+    "                     other, on a terminal each over the last; with --changes only after those that\n"
+    "                     changed it; with --repaint, within the repaint\n"
+    "  --delay MS         with --every: milliseconds between two on a terminal; 40 if not given\n"
+    "  --pbm FILE         also write the panel to FILE, a binary PBM (P4) of 122 by 32, 1 = lit, or\n"
+    "                     with - to standard output and print nothing else; with --changes, such a\n"
+    "                     picture after each listed record, one after the other, a comment naming the\n"
+    "                     record; where none is listed, one of the panel as it is; with --every\n"
+    "                     instead of the text, a file for each: for name.pbm name-000000.pbm and so on,\n"
+    "                     the number as --at takes it. A file that is read is not written over\n"
+    "  --form FORM        blocks (124 columns), braille (63 columns) or ascii; if not given, ascii\n"
+    "                     unless the locale is UTF-8, braille on a terminal under 124 columns, else\n"
+    "                     blocks. ascii on a terminal under 124 columns has the right half below\n"
     "  --live             instead of a file, take records from standard input as they come, cut\n"
     "                     anywhere: shows the panel at first and again after each record that\n"
     "                     changed it, on a terminal in place of the last; ends with the input or at\n"
-    "                     a refused record, and counts the records taken and the reads compared\n"
-    "  --help             print this\n"
+    "                     a refused record, and counts the records taken and the reads compared; goes\n"
+    "                     with --start, --save and --form\n"
+    "  -h, --help         print this\n"
+    "  --version          print the version\n"
     "\n"
     "After each of the first 252 records of a repaint the panel shows what it showed before; after\n"
     "the 253rd the left half is new, after the 254th both are. It takes a repaint with both displays\n"
@@ -52,370 +63,231 @@ static const char usage[] =
 /* As typed; NULL where not given. */
 struct options {
     const char *trace;
+    const char *start;
+    const char *save;
     const char *repaint;
     const char *at;
     const char *changes;
+    const char *list;
+    const char *every;
+    const char *delay;
     const char *pbm;
+    const char *form;
     const char *live;
 };
 
-/* A PBM file in memory, and the next byte to be read. */
-struct reader {
-    size_t length;
-    size_t next;
-    uint8_t bytes[PBM_KEPT];
-};
-
-/* ---- messages; each gives false, so that a caller can give its message back ---- */
-
-static bool wrong_argument(const char *what, const char *argument)
-{
-    fprintf(stderr, "show: %s \"%s\"; see show --help\n", what, argument);
-    return false;
-}
-
-/* The place is a chip, but for number 1, which no picture and buffer of this program can cause. */
-static bool repaint_refused(const char *trace, uint64_t answer)
-{
-    unsigned number = pedralume_number(answer);
-    if (number == PEDRALUME_BAD_LENGTH)
-        fprintf(stderr, "%s: repaint after it refused: number %u, a wrong size\n", trace, number);
-    else
-        fprintf(stderr, "%s: repaint after it refused: number %u, %s chip: %s\n", trace, number,
-                pedralume_place(answer) == 0 ? "left" : "right", meaning(number));
-    return false;
-}
-
-static bool damaged(const char *path, const char *what)
-{
-    fprintf(stderr, "%s: no PBM picture, or a damaged one: %s\n", path, what);
-    return false;
-}
+static const unsigned usual_delay = 40;
 
 /* ---- arguments ---- */
-
-static bool asks_for_help(int argc, char **argv)
-{
-    for (int i = 1; i < argc; i++)
-        if (strcmp(argv[i], "--help") == 0)
-            return true;
-    return false;
-}
-
-/* Where an option's value goes, or the option itself where it takes none; NULL for an unknown one.
- * What is no option is the trace. */
-static const char **slot_of(struct options *options, const char *argument)
-{
-    if (strcmp(argument, "--repaint") == 0)
-        return &options->repaint;
-    if (strcmp(argument, "--at") == 0)
-        return &options->at;
-    if (strcmp(argument, "--changes") == 0)
-        return &options->changes;
-    if (strcmp(argument, "--pbm") == 0)
-        return &options->pbm;
-    if (strcmp(argument, "--live") == 0)
-        return &options->live;
-    return argument[0] == '-' ? NULL : &options->trace;
-}
-
-static bool takes_value(const struct options *options, const char **slot)
-{
-    return slot == &options->repaint || slot == &options->at || slot == &options->pbm;
-}
 
 static bool is_count(const char *text)
 {
     return text[0] != '\0' && text[strspn(text, "0123456789")] == '\0';
 }
 
+static bool is_dash(const char *path)
+{
+    return path != NULL && strcmp(path, "-") == 0;
+}
+
 /* What --live does not go with. */
 static bool check_live(const struct options *options)
 {
+    const struct option others[] = {
+        { "--repaint", true, (const char **)&options->repaint }, { "--at", true, (const char **)&options->at },
+        { "--changes", false, (const char **)&options->changes }, { "--list", false, (const char **)&options->list },
+        { "--every", false, (const char **)&options->every }, { "--delay", true, (const char **)&options->delay },
+        { "--pbm", true, (const char **)&options->pbm },
+    };
     if (options->trace != NULL)
         return wrong_argument("--live takes standard input and no file:", options->trace);
-    if (options->repaint != NULL)
-        return wrong_argument("--live goes without", "--repaint");
-    if (options->at != NULL)
-        return wrong_argument("--live goes without", "--at");
-    if (options->changes != NULL)
-        return wrong_argument("--live goes without", "--changes");
-    return options->pbm == NULL || wrong_argument("--live goes without", "--pbm");
+    for (size_t i = 0; i < sizeof others / sizeof others[0]; i++)
+        if (*others[i].value != NULL)
+            return wrong_argument("--live goes without", others[i].name);
+    return !is_dash(options->save) || wrong_argument("--live goes without --save to", "-");
 }
 
 static bool check_options(const struct options *options)
 {
     if (options->live != NULL)
         return check_live(options);
-    if (options->trace == NULL)
+    if (options->trace == NULL && options->start == NULL)
         return wrong_argument("no file for", "TRACE");
     if (options->at != NULL && !is_count(options->at))
         return wrong_argument("--at takes a number of records, 0 or more, not", options->at);
-    return true;
+    if (options->delay != NULL && (!is_count(options->delay) || strlen(options->delay) > 6))
+        return wrong_argument("--delay takes milliseconds, 0 to 999999, not", options->delay);
+    if (options->list != NULL && options->changes == NULL)
+        return wrong_argument("--list goes with", "--changes");
+    if (options->delay != NULL && options->every == NULL)
+        return wrong_argument("--delay goes with", "--every");
+    if (is_dash(options->trace) && is_dash(options->start))
+        return wrong_argument("--start and the trace cannot both be", "-");
+    return !(is_dash(options->pbm) && is_dash(options->save)) || wrong_argument("--pbm and --save cannot both be", "-");
 }
 
-static bool read_options(int argc, char **argv, struct options *options)
+static bool take_options(int argc, char **argv, struct options *options)
 {
+    const struct option all[] = {
+        { "--start", true, &options->start }, { "--save", true, &options->save },
+        { "--repaint", true, &options->repaint }, { "--at", true, &options->at },
+        { "--changes", false, &options->changes }, { "--list", false, &options->list },
+        { "--every", false, &options->every }, { "--delay", true, &options->delay },
+        { "--pbm", true, &options->pbm }, { "--form", true, &options->form },
+        { "--live", false, &options->live },
+    };
     *options = (struct options){ 0 };
-    for (int i = 1; i < argc; i++) {
-        const char *argument = argv[i];
-        const char **slot = slot_of(options, argument);
-        if (slot == NULL)
-            return wrong_argument("unknown option", argument);
-        if (*slot != NULL)
-            return wrong_argument(slot == &options->trace ? "more than one trace:" : "more than one", argument);
-        if (takes_value(options, slot)) {
-            i++;
-            /* A forgotten value must not swallow the next option; a file may still be ./--name. */
-            if (i == argc || strncmp(argv[i], "--", 2) == 0)
-                return wrong_argument("no value after", argument);
-        }
-        *slot = argv[i];
-    }
-    return check_options(options);
+    return read_options(argc, argv, all, sizeof all / sizeof all[0], &options->trace)
+        && check_options(options) && choose_form(options->form);
 }
 
-/* ---- a batch from a file ---- */
+/* ---- the trace ---- */
 
-/* Reads no more than there is room for, so an endless file ends too. */
-static bool read_file(const char *path, uint8_t *bytes, size_t room, size_t *length)
+static bool too_few(const char *name, unsigned long has, const char *at)
 {
-    errno = 0;
-    FILE *file = fopen(path, "rb");
-    if (file == NULL)
-        return file_failed(path, "cannot be opened");
-    *length = fread(bytes, 1, room, file);
-    bool good = !ferror(file) || file_failed(path, "cannot be read");
-    fclose(file);
-    return good;
-}
-
-static bool read_batch(const char *path, struct batch *batch)
-{
-    batch->name = path;
-    return read_file(path, batch->bytes, sizeof batch->bytes, &batch->length);
-}
-
-/* Leaves only the first records, as many as --at says, so that what follows them is not looked at. */
-static bool keep_first(struct batch *batch, const char *at)
-{
-    size_t whole = batch->length / RECORD;
-    unsigned long count = strtoul(at, NULL, 10);   /* an overflow gives ULONG_MAX */
-    if (count > RECORDS_KEPT)
-        count = RECORDS_KEPT;   /* the rest of a longer file was not read: replay refuses it */
-    if (count > whole) {
-        fprintf(stderr, "%s: has only %zu record%s, --at asks for %s\n", batch->name, whole, whole == 1 ? "" : "s", at);
-        return false;
-    }
-    batch->length = count * RECORD;
-    return true;
-}
-
-/* With --repaint, --at is for the repaint. */
-static bool read_trace(const struct options *options, struct batch *batch)
-{
-    bool whole = options->at == NULL || options->repaint != NULL;
-    return read_batch(options->trace, batch) && (whole || keep_first(batch, options->at));
-}
-
-/* ---- a picture from a PBM file ---- */
-
-static bool is_space(int byte)
-{
-    return byte == ' ' || (byte >= '\t' && byte <= '\r');
-}
-
-static bool is_digit(int byte)
-{
-    return byte >= '0' && byte <= '9';
-}
-
-/* The next byte, or EOF. */
-static int peek(const struct reader *reader)
-{
-    return reader->next < reader->length ? reader->bytes[reader->next] : EOF;
-}
-
-static int take(struct reader *reader)
-{
-    int byte = peek(reader);
-    if (byte != EOF)
-        reader->next++;
-    return byte;
-}
-
-/* A comment goes from # to the end of its line. */
-static void skip_comments(struct reader *reader)
-{
-    while (peek(reader) == '#') {
-        int byte;
-        do
-            byte = take(reader);
-        while (byte != '\n' && byte != '\r' && byte != EOF);
-    }
-}
-
-static void skip_space(struct reader *reader)
-{
-    skip_comments(reader);
-    while (is_space(peek(reader))) {
-        take(reader);
-        skip_comments(reader);
-    }
-}
-
-/* At most nine digits, so that it cannot overflow. */
-static bool take_number(struct reader *reader, unsigned *number)
-{
-    unsigned digits = 0;
-    skip_space(reader);
-    for (*number = 0; is_digit(peek(reader)) && digits < 9; digits++)
-        *number = 10 * *number + (unsigned)(take(reader) - '0');
-    return digits > 0 && !is_digit(peek(reader));
-}
-
-/* One white space ends the header: of a P4, the byte after it has pixels. */
-static bool take_size(struct reader *reader, unsigned *width, unsigned *height)
-{
-    bool apart = is_space(peek(reader)) || peek(reader) == '#';
-    if (!apart || !take_number(reader, width) || !take_number(reader, height))
-        return false;
-    skip_comments(reader);
-    return is_space(take(reader));
-}
-
-/* The format is '1' or '4'. */
-static bool take_header(struct reader *reader, const char *path, int *format)
-{
-    unsigned width, height;
-    int letter = take(reader);
-    *format = take(reader);
-    if (letter != 'P' || (*format != '1' && *format != '4'))
-        return damaged(path, "it begins with neither P1 nor P4");
-    if (!take_size(reader, &width, &height))
-        return damaged(path, "its header gives no width and height");
-    if (width == WIDTH && height == PICTURE_HEIGHT)
-        return true;
-    fprintf(stderr, "%s: is %u by %u, a repaint takes %d by %d\n", path, width, height, WIDTH, PICTURE_HEIGHT);
+    fprintf(stderr, "%s: has only %lu record%s, --at asks for %s\n", name, has, has == 1 ? "" : "s", at);
     return false;
 }
 
-static void light(uint8_t *picture, unsigned x, unsigned y)
+/* More than any trace has where the number is too big. */
+static size_t records_of(const char *at)
 {
-    uint8_t *byte = &picture[x + WIDTH * (y / 8)];
-    *byte = (uint8_t)(*byte | 1u << y % 8);
+    unsigned long count = strtoul(at, NULL, 10);
+    return count > SIZE_MAX / RECORD ? SIZE_MAX / RECORD : count;
 }
 
-/* P1: a digit for each pixel, with or without white space between them. */
-static bool take_plain_row(struct reader *reader, uint8_t *picture, unsigned y)
+/* Sends the input, whole where at is NULL, else its first records: what follows them is not looked at. Where kept is
+ * not NULL it gets what is sent. */
+static bool send_input(struct run *run, struct input *input, const char *at, struct bytes *kept)
 {
-    for (unsigned x = 0; x < WIDTH; x++) {
-        skip_space(reader);
-        if (peek(reader) != '0' && peek(reader) != '1')
+    static uint8_t part[PEDRALUME_PART_MAX_BYTES];
+    size_t wanted = at != NULL ? records_of(at) * RECORD : SIZE_MAX, taken = 0;
+    ssize_t got = 0;
+    while (taken < wanted
+           && (got = read_some(input, part, wanted - taken < sizeof part ? wanted - taken : sizeof part)) > 0) {
+        taken += (size_t)got;
+        if ((kept != NULL && !append(kept, part, (size_t)got)) || !send_bytes(run, part, (size_t)got))
             return false;
-        if (take(reader) == '1')
-            light(picture, x, y);
     }
-    return true;
-}
-
-/* P4: a bit for each pixel, the leftmost the highest. A row is whole bytes; its last bits may be any. */
-static bool take_packed_row(struct reader *reader, uint8_t *picture, unsigned y)
-{
-    int byte = 0;
-    for (unsigned x = 0; x < WIDTH; x++) {
-        if (x % 8 == 0)
-            byte = take(reader);
-        if (byte == EOF)
-            return false;
-        if ((byte >> (7 - x % 8) & 1) != 0)
-            light(picture, x, y);
-    }
-    return true;
-}
-
-static bool take_row(struct reader *reader, int format, uint8_t *picture, unsigned y)
-{
-    return format == '1' ? take_plain_row(reader, picture, y) : take_packed_row(reader, picture, y);
-}
-
-static bool take_picture(struct reader *reader, const char *path, uint8_t picture[PEDRALUME_PICTURE_BYTES])
-{
-    int format;
-    if (!take_header(reader, path, &format))
+    if (got < 0)
         return false;
-    memset(picture, 0, PEDRALUME_PICTURE_BYTES);
-    for (unsigned y = 0; y < PICTURE_HEIGHT; y++)
-        if (!take_row(reader, format, picture, y))
-            return damaged(path, peek(reader) == EOF ? "it ends before its last pixel" : "a pixel is neither 0 nor 1");
-    if (format == '1')
-        skip_space(reader);
-    return peek(reader) == EOF || damaged(path, "it goes on after its last pixel");
+    if (at == NULL)
+        return end_run(run);
+    return taken == wanted || too_few(input->name, pedralume_feed_records(run->feed), at);
 }
 
-static bool read_picture(const char *path, uint8_t picture[PEDRALUME_PICTURE_BYTES])
+/* With no trace, only the start. */
+static bool send_trace(struct run *run, const char *path, const char *at, struct bytes *kept)
 {
-    static struct reader reader;
-    return read_file(path, reader.bytes, sizeof reader.bytes, &reader.length)
-        && take_picture(&reader, path, picture);
+    struct input input;
+    if (path == NULL)
+        return at == NULL || records_of(at) == 0 || too_few(run->name, 0, at);
+    if (!open_input(&input, path))
+        return false;
+    run->name = input.name;
+    bool sent = send_input(run, &input, at, kept);
+    close_input(&input);
+    return sent;
 }
 
 /* ---- the repaint ---- */
 
-static bool make_repaint(const struct panel *panel, const struct options *options, struct batch *batch)
+/* The place is a chip, but for number 1, which no picture and buffer of this program can cause. */
+static bool repaint_refused(const char *trace, uint64_t answer)
 {
-    uint8_t picture[PEDRALUME_PICTURE_BYTES];
-    if (!read_picture(options->repaint, picture))
-        return false;
-    uint64_t answer = pedralume_repaint(panel->chips, sizeof panel->chips, picture, sizeof picture,
-                                        batch->bytes, sizeof batch->bytes);
-    if (pedralume_number(answer) != PEDRALUME_DONE)
-        return repaint_refused(options->trace, answer);
-    batch->name = "the repaint";
-    batch->length = PEDRALUME_REPAINT_BYTES;
-    return options->at == NULL || keep_first(batch, options->at);
+    unsigned number = pedralume_number(answer);
+    fprintf(stderr, "%s: repaint after it refused: number %u, %s chip: %s\n", trace, number,
+            chip_words(pedralume_place(answer)), pedralume_words(number));
+    return false;
 }
 
-/* Sends the trace, and puts the repaint that follows it in its place. */
-static bool go_on_to_repaint(struct panel *panel, const struct options *options, struct batch *batch)
+/* The records, from the chips that the run has come to. */
+static bool make_repaint(const struct run *run, const char *path, uint8_t records[PEDRALUME_REPAINT_BYTES])
 {
-    return send_records(panel, batch->name, batch->bytes, batch->length)
-        && make_repaint(panel, options, batch);
+    uint8_t picture[PEDRALUME_PICTURE_BYTES];
+    if (!read_picture(path, picture))
+        return false;
+    uint64_t answer = pedralume_repaint(run->feed, PEDRALUME_CHIPS_BYTES, picture, sizeof picture,
+                                        records, PEDRALUME_REPAINT_BYTES);
+    return pedralume_number(answer) == PEDRALUME_DONE || repaint_refused(run->name, answer);
+}
+
+/* Sends the repaint, whole or its first records. Kept gets what is sent. */
+static bool send_repaint(struct run *run, const struct options *options, struct bytes *kept)
+{
+    uint8_t records[PEDRALUME_REPAINT_BYTES];
+    size_t count = options->at != NULL ? records_of(options->at) : PEDRALUME_REPAINT_RECORDS;
+    if (!make_repaint(run, options->repaint, records))
+        return false;
+    struct run before = *run;
+    if (!go_on_from(run, "the repaint", &before))
+        return false;
+    if (count > PEDRALUME_REPAINT_RECORDS)
+        return too_few(run->name, PEDRALUME_REPAINT_RECORDS, options->at);
+    return append(kept, records, count * RECORD) && send_bytes(run, records, count * RECORD);
 }
 
 /* ---- what is shown ---- */
 
-static bool show_panel(struct panel *panel, const struct batch *batch, const char *pbm)
+static bool show_changes(const struct options *options, const struct batch *batch)
 {
-    uint8_t frame[PEDRALUME_FRAME_BYTES];
-    return send_records(panel, batch->name, batch->bytes, batch->length)
-        && take_frame(panel->chips, panel->ram, frame)
-        && (pbm == NULL || write_frame(pbm, frame))
-        && print_frame(frame);
+    struct changes changes;
+    if (!list_changes(batch, &changes))
+        return false;
+    if (options->every != NULL) {
+        unsigned delay = options->delay != NULL ? (unsigned)strtoul(options->delay, NULL, 10) : usual_delay;
+        return show_every(batch, options->changes != NULL ? &changes : NULL, options->pbm, delay);
+    }
+    if (options->pbm != NULL && !write_changes(options->pbm, &changes, batch))
+        return false;
+    if (is_dash(options->pbm) || is_dash(options->save))
+        return true;
+    bool pages = options->list == NULL && changes.count > 0 && isatty(STDIN_FILENO) && isatty(STDOUT_FILENO);
+    return pages ? page_changes(&changes, batch) : print_changes(&changes, batch);
 }
 
-/* The last batch is the trace or, with --repaint, the repaint. */
+static bool show_panel(const struct options *options, const struct run *run)
+{
+    uint8_t frame[PEDRALUME_FRAME_BYTES];
+    if (!take_frame(run, frame) || (options->pbm != NULL && !write_frame(options->pbm, frame)))
+        return false;
+    if (is_dash(options->pbm) || is_dash(options->save))
+        return true;
+    print_frame(frame);
+    return all_printed();
+}
+
+/* With --changes or --every, what is sent last is gone through again: the trace, or with --repaint the repaint. */
 static bool show_trace(const struct options *options)
 {
-    static struct batch batch;
-    struct panel panel = { .chips = { PEDRALUME_FRESH_CHIP, PEDRALUME_FRESH_CHIP } };
-    if (!read_trace(options, &batch)
-        || (options->repaint != NULL && !go_on_to_repaint(&panel, options, &batch)))
+    static struct bytes kept;
+    struct run run, before;
+    bool again = options->changes != NULL || options->every != NULL, repaints = options->repaint != NULL;
+    if (!begin_run(&run, options->start != NULL ? options->start : options->trace, options->start))
         return false;
-    return options->changes != NULL ? show_changes(&panel, &batch, options->pbm)
-                                    : show_panel(&panel, &batch, options->pbm);
+    before = run;
+    if (!send_trace(&run, options->trace, repaints ? NULL : options->at, again && !repaints ? &kept : NULL))
+        return false;
+    before.name = run.name;
+    if (repaints) {
+        before = run;
+        if (!send_repaint(&run, options, &kept))
+            return false;
+    }
+    if (options->save != NULL && !save_run(&run, options->save))
+        return false;
+    struct batch batch = { &before, kept.at, kept.length / RECORD };
+    return again ? show_changes(options, &batch) : show_panel(options, &run);
 }
 
 int main(int argc, char **argv)
 {
-    if (asks_for_help(argc, argv)) {
-        errno = 0;
-        fputs(usage, stdout);
-        return all_printed() ? EXIT_SUCCESS : EXIT_FAILURE;
-    }
     struct options options;
-    if (!read_options(argc, argv, &options))
+    int status;
+    if (only_told(argc, argv, &status))
+        return status;
+    if (!take_options(argc, argv, &options))
         return STATUS_ARGUMENTS;
-    bool shown = options.live != NULL ? show_live() : show_trace(&options);
+    bool shown = options.live != NULL ? show_live(options.start, options.save) : show_trace(&options);
     return shown ? EXIT_SUCCESS : EXIT_FAILURE;
 }

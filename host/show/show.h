@@ -1,77 +1,93 @@
 /*
- * What the files of show share. Functions that give a bool, but for lit, say on standard error why it is false.
+ * What the files of show share. Functions that give a bool say on standard error why it is false, but
+ * where their comment says that they only answer a question.
  */
 #ifndef SHOW_H
 #define SHOW_H
 
-#include "pedralume.h"
-
-#include <stdbool.h>
-#include <stdio.h>
+#include "common.h"
 
 enum {
     WIDTH = 122,
-    HEIGHT = 32,
-    RECORD = PEDRALUME_RECORD_BYTES,
-    /* One record more than a call takes, so that the call itself refuses a longer file. */
-    RECORDS_KEPT = PEDRALUME_TRACE_MAX_BYTES / PEDRALUME_RECORD_BYTES + 1
+    HEIGHT = 32
 };
 
-struct panel {
-    uint8_t chips[PEDRALUME_CHIPS_BYTES];
-    uint8_t ram[PEDRALUME_RAM_BYTES];
-};
-
-/* The name is for messages. The length may end inside a record: the call refuses that by number. */
+/* Records that were all accepted, to be gone through again from the chips and RAM before the first of them. */
 struct batch {
-    const char *name;
-    size_t length;
-    uint8_t bytes[RECORDS_KEPT * RECORD];
+    const struct run *before;
+    const uint8_t *bytes;
+    size_t count;
 };
 
-/* ---- panel.c: messages, records to the panel, and its frame as text and as PBM ---- */
+/* ---- picture.c ---- */
 
-/* Gives false, so that a caller can give its message back; so does trace_refused. Call it with errno as
- * the failed call left it, and 0 before that call. */
-bool file_failed(const char *path, const char *what);
+/* A PBM of 122 by 16, or by 32 with its lower half blank. */
+bool read_picture(const char *path, uint8_t picture[PEDRALUME_PICTURE_BYTES]);
 
-/* What a number means; document 01's table and document 02's numbers in a few words. */
-const char *meaning(unsigned number);
+/* ---- panel.c: the frame, as text and as PBM ---- */
 
-/* The place is a record for numbers 4 to 8 and 14, and how many whole records there are for 3. */
-bool trace_refused(const char *name, unsigned number, uint32_t place);
+/* Not refused for any chips that a feed has left; checked all the same. */
+bool take_frame(const struct run *run, uint8_t frame[PEDRALUME_FRAME_BYTES]);
 
-/* The name is for the message where a record is refused. */
-bool send_records(struct panel *panel, const char *name, const uint8_t *records, size_t length);
+/* The form in which print_frame draws: as named, or where that is NULL the one that fits locale and terminal. */
+bool choose_form(const char *name);
 
-/* Not refused for any chips that replay or a feed has left; checked all the same. */
-bool take_frame(const uint8_t *chips, const uint8_t *ram, uint8_t *frame);
+/* Standard output may hold more before and after it: this does not look whether all has gone out. */
+void print_frame(const uint8_t *frame);
 
-bool lit(const uint8_t *frame, unsigned x, unsigned y);
+/* Goes back to the upper left corner where standard output is a terminal, at first of a cleared screen. */
+void go_home(bool first);
 
-bool print_frame(const uint8_t *frame);
-
-/* Whether all that was printed has really gone out. */
-bool all_printed(void);
-
-/* A PBM file is opened, given pictures, and closed, also where one could not be written (all_written false).
- * The opening gives NULL where it fails. A comment is a whole line of the header, or empty. */
-FILE *open_pbm(const char *path);
+/* A comment is a whole line of the header, or empty. */
 bool add_picture(FILE *file, const char *path, const char *comment, const uint8_t *frame);
-bool close_pbm(FILE *file, const char *path, bool all_written);
 
 /* A PBM file with this one picture. */
 bool write_frame(const char *path, const uint8_t *frame);
 
 /* ---- changes.c ---- */
 
-/* Lists the records of the batch that change what the panel shows, from the panel as given. Where pbm
- * is not NULL, that file gets what it shows after each of them, or where there are none what it shows. */
-bool show_changes(const struct panel *panel, const struct batch *batch, const char *pbm);
+struct change {
+    uint32_t record;
+    unsigned left, right;   /* pixels changed in either half */
+};
+
+struct changes {
+    const struct change *list;
+    size_t count;
+};
+
+/* The records of the batch that change what the panel shows. */
+bool list_changes(const struct batch *batch, struct changes *changes);
+
+/* The change in words, as a line. */
+void print_change(const struct change *change, const struct batch *batch);
+
+/* The last line of a list. */
+void print_count(const struct changes *changes, const struct batch *batch);
+
+bool print_changes(const struct changes *changes, const struct batch *batch);
+
+/* Begins to go through the batch; then brings the run to where so many records of it are sent, which are not fewer than before. */
+bool begin_again(struct run *run, const struct batch *batch);
+bool send_up_to(struct run *run, const struct batch *batch, size_t count);
+
+/* What the panel shows after each change, one PBM after the other, or where there are none what it shows. */
+bool write_changes(const char *path, const struct changes *changes, const struct batch *batch);
+
+/* ---- pages.c ---- */
+
+/* What the panel shows after each change, a page each on the terminal, to be leafed through. */
+bool page_changes(const struct changes *changes, const struct batch *batch);
+
+/* ---- every.c ---- */
+
+/* The panel before the first record and after each, or where changes is not NULL after each of those: as text, in turn on a
+ * terminal; or where pbm is not NULL as numbered PBM files. */
+bool show_every(const struct batch *batch, const struct changes *changes, const char *pbm, unsigned delay);
 
 /* ---- live.c ---- */
 
 /* Shows the panel while records come on standard input; false where one is refused, too. */
-bool show_live(void);
+bool show_live(const char *start, const char *save);
 
 #endif

@@ -4,114 +4,7 @@
 set -u
 show=$1 listing=$2 work=$3
 example=$(dirname "$0")/../../examples/name.trace new_name=$(dirname "$0")/../../examples/name.pbm
-mkdir -p "$work" || exit 1
-t=$work/t.trace picture=$work/in.pbm pbm=$work/out.pbm
-checks=0 failed=0
-
-check() { # LABEL COMMAND...: the command must succeed
-    label=$1
-    shift
-    checks=$((checks + 1))
-    "$@" || { failed=$((failed + 1)); echo "show: FAILED: $label"; }
-}
-same() { [ "$1" = "$2" ]; }
-
-# ---- inputs ----
-
-records() { # "LINES CHIP HEX" ...: prints the records; a fourth word is the last byte, else 0
-    for r in "$@"; do
-        # shellcheck disable=SC2086
-        set -- $r
-        # shellcheck disable=SC2059
-        printf "$(printf '\\%03o\\%03o\\%03o\\%03o' "$1" "$2" "0x$3" "${4:-0}")"
-    done
-}
-repeated() { # N TEXT
-    awk -v n="$1" -v text="$2" 'BEGIN { while (n-- > 0) printf "%s", text }'
-}
-status_reads() { # BYTES: that many bytes of valid records, the last one perhaps cut short
-    repeated 20000 abcb | tr abc '\004\000\140' | head -c "$1"
-}
-
-hex_rows() { # "N ROW"...: prints the row N times, then the next one, a line each
-    for rows in "$@"; do
-        n=${rows%% *}
-        while [ "$n" -gt 0 ]; do echo "${rows#* }"; n=$((n - 1)); done
-    done
-}
-digits() { # "N ROW"...: the pixels of a P1 picture, a row of 122 digits a line
-    hex_rows "$@" | awk '{
-        line = ""
-        for (i = 1; i <= 32; i++) {
-            nibble = index("0123456789abcdef", substr($0, i, 1)) - 1
-            for (bit = 8; bit >= 1; bit /= 2) line = line int(nibble / bit) % 2
-        }
-        print substr(line, 1, 122)
-    }'
-}
-packed() { # "N ROW"...: the pixels of a P4 picture
-    for row in $(hex_rows "$@"); do
-        # shellcheck disable=SC2046,SC2059
-        printf "$(printf '\\%03o' $(echo "$row" | sed 's/../ 0x&/g'))"
-    done
-}
-
-# ---- what is run and wanted ----
-
-run() { # ARGUMENTS...: leaves $status, $work/out and $work/err
-    "$show" "$@" >"$work/out" 2>"$work/err"
-    status=$?
-}
-refused() { # LABEL STATUS MESSAGE ARGUMENTS...: this message, this status, nothing shown
-    name=$1 want=$2 message=$3
-    shift 3
-    run "$@"
-    check "$name: status $status" same "$status" "$want"
-    check "$name: says '$(cat "$work/err")'" same "$(cat "$work/err")" "$message"
-    check "$name: shows something" [ ! -s "$work/out" ]
-}
-text_of() { # PBM: the text that show must print for it
-    tail -c 512 "$1" | od -An -v -tu1 | awk '
-        function lit(x, y) { return int(byte[16 * y + int(x / 8)] / 2 ^ (7 - x % 8)) % 2 }
-        function edge(left, right) { for (x = 0; x < 122; x++) left = left "─"; print left right }
-        { for (i = 1; i <= NF; i++) byte[n++] = $i }
-        END {
-            glyph["00"] = " "; glyph["10"] = "▀"; glyph["01"] = "▄"; glyph["11"] = "█"
-            edge("┌", "┐")
-            for (y = 0; y < 32; y += 2) {
-                line = "│"
-                for (x = 0; x < 122; x++) line = line glyph[lit(x, y) lit(x, y + 1)]
-                print line "│"
-            }
-            edge("└", "┘")
-        }'
-}
-shown() { # LABEL ARGUMENTS...: accepted without a word, a whole PBM, and a text that agrees with it
-    name=$1
-    shift
-    rm -f "$pbm"
-    run "$@" --pbm "$pbm"
-    check "$name: status $status, $(cat "$work/err")" same "$status" 0
-    check "$name: a message" [ ! -s "$work/err" ]
-    check "$name: PBM header" same "$(head -c 10 "$pbm" | od -An -tx1 | tr -d ' \n')" 50340a3132322033320a
-    check "$name: PBM length" same "$(wc -c <"$pbm")" $((10 + 16 * 32))
-    text_of "$pbm" >"$work/text"
-    check "$name: text and PBM differ" cmp -s "$work/text" "$work/out"
-}
-pixels() { # LABEL "N ROW"...: the last PBM is N rows of these hex bytes, then the next N rows
-    name=$1
-    shift
-    want=$(for rows in "$@"; do repeated "${rows%% *}" "${rows#* }"; done)
-    check "$name: PBM bytes" same "$(tail -c +11 "$pbm" | od -An -v -tx1 | tr -d ' \n')" "$want"
-}
-
-dark=00000000000000000000000000000000
-lit=ffffffffffffffffffffffffffffffc0
-left_lit=fffffffffffffff80000000000000000
-right_lit=0000000000000007ffffffffffffffc0
-first=80000000000000000000000000000000
-last=00000000000000000000000000000040
-middle=000000000000000c0000000000000000
+. "$(dirname "$0")/runs.sh"
 
 # ---- single pixels and whole halves ----
 
@@ -252,7 +145,7 @@ for header in 'P1' 'P4\n' 'P4\n122' 'P4\n122 \n# 16' 'P4\n122 16' 'P4\n122 16x' 
     # shellcheck disable=SC2059
     printf "$header" >"$picture"; bad_picture "$damage its header gives no width and height"
 done
-for size in "122 32" "16 122" "121 16" "122 17" "0 0" "999999999 16"; do
+for size in "122 33" "122 31" "32 122" "16 122" "121 16" "122 17" "0 0" "999999999 16"; do
     { printf 'P4\n%s\n' "$size"; new_rows packed; } >"$picture"
     bad_picture "is ${size% *} by ${size#* }, a repaint takes 122 by 16"
 done
@@ -333,25 +226,17 @@ refused_at_2 14 "$no_column" "2 0 7F" "2 0 4F"
 
 records "2 0 AF" "3 0 01" >"$t"
 printf '\003\000' >>"$t"
-refused "cut short" 1 "$t: refused: number 3, a length that is no multiple of 4 (whole records: 2)" "$t"
-refused "cut short, changes" 1 "$t: refused: number 3, a length that is no multiple of 4 (whole records: 2)" "$t" --changes
+cut="refused: number 3, a trace that ends inside a record"
+refused "cut short" 1 "$t: $cut (whole records: 2)" "$t"
+refused "cut short, changes" 1 "$t: $cut (whole records: 2)" "$t" --changes
 refused "cut short at 3" 1 "$t: has only 2 records, --at asks for 3" "$t" --at 3
 shown "cut short at 2" "$t" --at 2; pixels "cut short at 2" "1 $first" "31 $dark"
 
-over="refused: number 1, a trace over 65,536 bytes"
 status_reads 65536 >"$t"
-shown "longest" "$t"
-refused "longest, past its end" 1 "$t: has only 16384 records, --at asks for 16385" "$t" --at 16385
-for size in 65537 65540 80000; do
-    status_reads $size >"$t"
-    refused "$size bytes" 1 "$t: $over" "$t"
-    refused "$size bytes, changes" 1 "$t: $over" "$t" --changes
-    shown "$size bytes at 16384" "$t" --at 16384
-done
-refused "80000 bytes at 16385" 1 "$t: $over" "$t" --at 16385
-refused "80000 bytes at 17000" 1 "$t: $over" "$t" --at 17000
-refused "80000 bytes at 17000, changes" 1 "$t: $over" "$t" --at 17000 --changes
-refused "endless" 1 "/dev/zero: $over" /dev/zero
+shown "as long as one call takes" "$t"
+refused "as long as one call takes, past its end" 1 "$t: has only 16384 records, --at asks for 16385" "$t" --at 16385
+refused "endless" 1 "/dev/zero: record 0 refused: number 6, RD and WR equal" /dev/zero
+refused "endless, changes" 1 "/dev/zero: record 0 refused: number 6, RD and WR equal" /dev/zero --changes
 
 # ---- live: the same however the input is cut ----
 
@@ -388,7 +273,7 @@ live() { # LABEL NUMBER RECORDS MESSAGE [SIZE...]: $t from a file, and through a
     shift 4
     run --live <"$t"; ended "$name" $want "$message"
     for size in "$@"; do
-        slowly "$t" "$size" | { run --live; echo "$status" >"$work/status"; }
+        slowly "$t" "$size" | piped --live
         status=$(cat "$work/status"); ended "$name, by $size" $want "$message"
     done
 }
@@ -403,9 +288,9 @@ check "live, changes: pictures" same "$(pictures)" 7
 check "live, changes: end" same "$(tail -n 1 "$work/out")" "end: number 0, done, place 13; records taken: 13, reads compared: 2, differing: 1"
 for extra in 1 2 3; do
     { changes; printf '\003\000\377' | head -c $extra; } >"$t"
-    live "cut short by $extra" 3 13 "standard input: refused: number 3, a length that is no multiple of 4 (whole records: 13)"
+    live "cut short by $extra" 3 13 "standard input: $cut (whole records: 13)"
 done
-live "cut short" 3 13 "standard input: refused: number 3, a length that is no multiple of 4 (whole records: 13)" 5
+live "cut short" 3 13 "standard input: $cut (whole records: 13)" 5
 
 live_refused() { # NUMBER WORDS RECORD [SIZE...]: what comes after the refused record is not looked at
     { changes; records "$3"; changes; printf '\001'; } >"$t"
@@ -470,11 +355,11 @@ for option in --repaint --at --pbm; do
     refused "live as the value of $option" 2 "show: no value after \"$option\"; see show --help" $option --live
 done
 refused "live twice" 2 'show: more than one "--live"; see show --help' --live --live
-refused "live with a value" 2 'show: unknown option "--live=1"; see show --help' --live=1
+refused "live with a value" 2 'show: no value goes with "--live"; see show --help' --live=1
 
 # On a terminal, where there is a program that makes one: over the last picture, from the upper left corner.
 if script -qec true /dev/null >/dev/null 2>&1 </dev/null; then
-    script -qec "'$show' --live <'$t'" /dev/null >"$work/screen" </dev/null
+    script -qec "'$show' --live --form blocks <'$t'" /dev/null >"$work/screen" </dev/null
     home=$(printf '\033[H')
     check "live on a terminal: the first clears it" same "$(head -c 6 "$work/screen")" "$(printf '\033[H\033[J')"
     check "live on a terminal: pictures" same "$(grep -cF "$home" "$work/screen")" 7
@@ -610,7 +495,7 @@ run --live <"$example"
 sed '$d' "$work/out" >"$work/drawn"
 check "changes, example: as --live draws it" cmp -s "$work/drawn" "$work/wanted"
 
-# From the longest trace that is taken, as many as there can be: from fresh chips the first record changes nothing.
+# From the longest trace that one call takes, as many as there can be: from fresh chips the first record changes nothing.
 { records "2 1 AF"; repeated 8192 abcdabed | tr abcde '\002\001\245\000\244' | head -c 65532; } >"$t"
 rm -f "$pbm"
 run "$t" --changes --pbm "$pbm"
@@ -620,10 +505,6 @@ check "changes, longest: last two" same "$(tail -n 2 "$work/out")" "record 16383
 16383 of 16384 records changed what the panel shows"
 check "changes, longest: pictures" same "$(wc -c <"$pbm")" "$(seq 16383 | awk '{ size += 532 + length($1) } END { printf "%d", size }')"
 check "changes, longest: last picture" same "$(tail -c 537 "$pbm" | head -c 25 | tr '\n' /)" "P4/# record 16383/122 32/"
-records "4 1 40" >>"$t"
-refused "changes, one record more" 1 "$t: $over" "$t" --changes
-run "$t" --changes --at 16384
-check "changes, one record more at 16384" same "$status $(wc -l <"$work/out")" "0 16384"
 
 # ---- changes of a repaint: its records count from 0, the trace's are not listed ----
 
@@ -666,8 +547,8 @@ refused "live, changes" 2 'show: --live goes without "--changes"; see show --hel
 refused "changes, live" 2 'show: --live goes without "--changes"; see show --help' --changes --live
 refused "changes, no trace" 2 'show: no file for "TRACE"; see show --help' --changes
 refused "changes twice" 2 'show: more than one "--changes"; see show --help' "$t" --changes --changes
-refused "changes with a value" 2 'show: unknown option "--changes=1"; see show --help' "$t" --changes=1
-refused "changes before another trace" 2 "show: more than one trace: \"$example\"; see show --help" "$t" --changes "$example"
+refused "changes with a value" 2 'show: no value goes with "--changes"; see show --help' "$t" --changes=1
+refused "changes before another trace" 2 "show: more than one file: \"$example\"; see show --help" "$t" --changes "$example"
 for option in --repaint --at --pbm; do
     refused "changes as the value of $option" 2 "show: no value after \"$option\"; see show --help" "$t" $option --changes
 done
@@ -700,7 +581,7 @@ done
 
 refused "no arguments" 2 'show: no file for "TRACE"; see show --help'
 refused "no trace" 2 'show: no file for "TRACE"; see show --help' --at 1
-for option in --foo -x - --at=1 --; do
+for option in --foo -x --a --foo=1 ---; do
     refused "$option" 2 "show: unknown option \"$option\"; see show --help" "$t" "$option"
 done
 for option in --repaint --at --pbm; do
@@ -708,16 +589,16 @@ for option in --repaint --at --pbm; do
     refused "$option before another" 2 "show: no value after \"$option\"; see show --help" $option --at "$t"
     refused "$option twice" 2 "show: more than one \"$option\"; see show --help" "$t" $option 1 $option 1
 done
-refused "two traces" 2 "show: more than one trace: \"$example\"; see show --help" "$t" "$example"
+refused "two traces" 2 "show: more than one file: \"$example\"; see show --help" "$t" "$example"
 
-for arguments in "--help" "$t --foo --help"; do
+for arguments in "--help" "-h" "$t --foo --help"; do
     # shellcheck disable=SC2086
     run $arguments
     check "$arguments: status $status" same "$status" 0
     check "$arguments: a message" [ ! -s "$work/err" ]
-    check "$arguments: usage" same "$(head -n 1 "$work/out")" "Usage: show TRACE [--repaint PICTURE] [--at N] [--changes] [--pbm FILE]"
+    check "$arguments: usage" same "$(head -n 1 "$work/out")" "Usage: show TRACE [--repaint PICTURE] [--at N] [--changes] [--every] [--pbm FILE] ..."
     check "$arguments: usage, live" same "$(sed -n 2p "$work/out")" "       show --live"
-    for option in --repaint --at --changes --pbm --live --help; do
+    for option in --start --save --repaint --at --changes --list --every --delay --pbm --form --live "-h, --help" --version; do
         check "$arguments: $option" same "$(grep -c -e "^  $option " "$work/out")" 1
     done
 done

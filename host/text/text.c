@@ -1,0 +1,180 @@
+/*
+ * text: a trace as text, a line for each record, with what the chips answer; and such a text, or one
+ * written by hand, as a trace (back.c).
+ */
+#define _POSIX_C_SOURCE 200809L
+#include "text.h"
+
+#include <stdlib.h>
+#include <string.h>
+#include <unistd.h>
+
+const char program[] = "text";
+
+const char usage[] =
+    "Usage: text [TRACE] [--start FILE]\n"
+    "       text --back [TEXT]\n"
+    "\n"
+    "Sends the bus records of the file TRACE to two fresh chips with RAM all 0, and prints a line for\n"
+    "each: its number, its chip, what it does, its byte, and what the chip answers; where a read that\n"
+    "is compared differs, what was recorded and what the chip gives. Then number, place and counts.\n"
+    "With no file, or with -, it reads standard input.\n"
+    "\n"
+    "  --start FILE  begin with the chips and RAM of FILE, which show --save wrote\n"
+    "  --back        the other way: make a text a trace, on standard output\n"
+    "  -h, --help    print this\n"
+    "  --version     print the version\n"
+    "\n"
+    "A text has one record a line. What follows # is a comment, and a number with a colon before a\n"
+    "record is skipped, so what this program prints is such a text. A record is left or right, then\n"
+    "one of these; N is decimal, HH a byte in hex, for a read the byte recorded (00 if not given):\n"
+    "\n"
+    "  column N (0 to 127)         page N (0 to 3)       start line N (0 to 31)\n"
+    "  display on|off              ADC forward|reverse   static drive on|off    duty 1/16|1/32\n"
+    "  read-modify-write on|off    reset                 command HH\n"
+    "  data write HH, write HH     data read [HH], read [HH]     status read [HH], status [HH]\n"
+    "\n"
+    "or, without left or right, raw HH HH HH HH, the bytes of a record as they are.\n"
+    "\n"
+    "Status: 0 done, 1 the file, the trace or the text is at fault, 2 the arguments are.\n";
+
+enum {
+    PART = 65536,
+    /* "start line 31" and its like; and the longest: raw and four bytes. */
+    WORDS = 32,
+    CYCLE_WIDTH = 29
+};
+
+/* ---- a line ---- */
+
+/* What the chip gave, or why it gave nothing. The counts before tell whether this read was compared, and differs. */
+static void print_answer(const struct run *run, const struct run *before, const uint8_t record[RECORD],
+                         const uint8_t answer[PEDRALUME_ANSWER_BYTES])
+{
+    const uint8_t *chip = before->feed + (record[1] == 0 ? 0 : PEDRALUME_CHIP_BYTES);
+    if (!is_open(before))
+        printf("not replayed\n");
+    else if (!is_open(run))
+        printf("refused: number %u, %s\n", pedralume_number(run->answer), pedralume_words(pedralume_number(run->answer)));
+    else if (pedralume_feed_differing(run->feed) > pedralume_feed_differing(before->feed))
+        printf("differs: recorded %02X, the chip gives %02X\n", record[2], answer[1]);
+    else if (pedralume_feed_compared(run->feed) > pedralume_feed_compared(before->feed))
+        printf("the chip gives %02X, as recorded\n", answer[1]);
+    else if (answer[0] == PEDRALUME_KIND_STALE)
+        printf("empty read: the chip gives %02X, not compared\n", answer[1]);
+    else if (record[0] == PEDRALUME_DATA_WRITE)
+        printf("accepted at page %u, column %u\n", chip[PEDRALUME_PAGE], chip[PEDRALUME_COLUMN]);
+    else
+        printf("accepted\n");
+}
+
+/* Any bytes as they are; the last of a trace may be fewer than a record. */
+static void raw_words(const uint8_t *bytes, size_t length, char words[WORDS])
+{
+    int at = snprintf(words, WORDS, "raw");
+    for (size_t i = 0; i < length; i++)
+        at += snprintf(words + at, (size_t)(WORDS - at), " %02X", bytes[i]);
+}
+
+static void print_record(unsigned long number, const uint8_t record[RECORD])
+{
+    char words[WORDS];
+    printf("%6lu: ", number);
+    if (has_words(record)) {
+        cycle_words(record, words, sizeof words);
+        printf("%-5s %-*s", chip_words(record[1]), CYCLE_WIDTH - 6, words);
+    } else {
+        raw_words(record, RECORD, words);
+        printf("%-*s", CYCLE_WIDTH, words);
+    }
+    printf(" # %02X  ", record[2]);
+}
+
+/* ---- a trace ---- */
+
+struct telling {
+    struct run run;
+    unsigned long number;   /* of the next record */
+    size_t length;          /* of what is read and not told yet */
+    uint8_t bytes[RECORD + PART];
+};
+
+/* A copy of the run tells what the record changed; RAM is not looked at. */
+static void tell_record(struct telling *telling, const uint8_t record[RECORD])
+{
+    struct run before = telling->run;
+    uint8_t answer[PEDRALUME_ANSWER_BYTES] = { 0 };
+    if (is_open(&telling->run))
+        send_one(&telling->run, record, RECORD, answer);
+    print_record(telling->number, record);
+    print_answer(&telling->run, &before, record, answer);
+    telling->number++;
+}
+
+/* Tells what is whole, and moves the rest to the front. */
+static bool tell_records(struct telling *telling)
+{
+    size_t at = 0;
+    for (; telling->length - at >= RECORD; at += RECORD)
+        tell_record(telling, telling->bytes + at);
+    telling->length -= at;
+    memmove(telling->bytes, telling->bytes + at, telling->length);
+    return all_printed();
+}
+
+/* The bytes of a record that the trace ends in. */
+static void tell_rest(struct telling *telling)
+{
+    uint8_t answer[PEDRALUME_ANSWER_BYTES];
+    char words[WORDS];
+    if (telling->length == 0)
+        return;
+    if (is_open(&telling->run))
+        send_one(&telling->run, telling->bytes, telling->length, answer);
+    raw_words(telling->bytes, telling->length, words);
+    printf("%6lu: %-*s # the trace ends inside this record\n", telling->number, CYCLE_WIDTH, words);
+}
+
+static bool tell_input(struct telling *telling, struct input *input)
+{
+    ssize_t got;
+    while ((got = read_some(input, telling->bytes + telling->length, PART)) > 0) {
+        telling->length += (size_t)got;
+        if (!tell_records(telling))
+            return false;
+    }
+    return got == 0;
+}
+
+bool tell_trace(const char *path, const char *start)
+{
+    static struct telling telling;
+    struct input input;
+    if (!open_input(&input, path))
+        return false;
+    if (!begin_run(&telling.run, input.name, start) || !tell_input(&telling, &input))
+        return false;
+    close_input(&input);
+    tell_rest(&telling);
+    return tell_end(&telling.run, "# ");
+}
+
+/* ---- the arguments ---- */
+
+int main(int argc, char **argv)
+{
+    const char *file = NULL, *start = NULL, *back = NULL;
+    const struct option options[] = { { "--start", true, &start }, { "--back", false, &back } };
+    int status;
+    if (only_told(argc, argv, &status))
+        return status;
+    if (!read_options(argc, argv, options, sizeof options / sizeof options[0], &file))
+        return STATUS_ARGUMENTS;
+    if (back != NULL && start != NULL)
+        return wrong_argument("--back goes without", "--start"), STATUS_ARGUMENTS;
+    if (back != NULL && isatty(STDOUT_FILENO))
+        return wrong_argument("a trace is no text: send it to a file or a pipe, not to", "a terminal"), STATUS_ARGUMENTS;
+    if (file == NULL)
+        file = "-";
+    return (back != NULL ? write_trace(file) : tell_trace(file, start)) ? EXIT_SUCCESS : EXIT_FAILURE;
+}
