@@ -1,0 +1,112 @@
+#!/bin/sh
+# Puts what is built under $PREFIX, or takes it away again; run by make install and make uninstall, which set all that is in capitals.
+# Usage: install.sh places|put|remove, in this folder.
+#
+# Each file is written beside its place and then moved there: one that cannot be written whole is never seen, and a program that runs stays as it is.
+set -u
+umask 022
+LC_ALL=C
+export LC_ALL
+number="[0-9][0-9]*"
+fail() { echo "install: $*" >&2; exit 1; }
+
+# ---- what goes where ----
+
+files() { # COMMAND: calls it for each file with mode, source and place; a source @name is made by that function
+    "$1" 644 include/pedralume.h "$INCLUDEDIR/pedralume.h"
+    "$1" 644 "$ARCHIVE" "$LIBDIR/libpedralume.a"
+    "$1" 755 build/libpedralume.so "$LIBDIR/libpedralume.so.$VERSION"
+    "$1" 644 @pc "$LIBDIR/pkgconfig/pedralume.pc"
+    for own in $PROGRAMS; do
+        "$1" 755 "build/$own" "$BINDIR/pedralume-$own"
+        "$1" 644 "man/pedralume-$own.1" "$MANDIR/man1/pedralume-$own.1"
+    done
+    "$1" 755 "$PROGRAM" "$LIBDIR/pedralume/replay"
+    "$1" 755 @replay "$BINDIR/pedralume-replay"
+    "$1" 644 man/pedralume-replay.1 "$MANDIR/man1/pedralume-replay.1"
+    "$1" 644 man/pedralume.3 "$MANDIR/man3/pedralume.3"
+}
+links() { # COMMAND: calls it for each link with its text and place
+    "$1" "libpedralume.so.$VERSION" "$LIBDIR/libpedralume.so.${VERSION%%.*}"
+    "$1" "libpedralume.so.${VERSION%%.*}" "$LIBDIR/libpedralume.so"
+}
+
+# ---- the two that are made here ----
+
+# A place under PREFIX is said by it, so that pkg-config can move all of them.
+pc() {
+    sed "s|@PREFIX@|$PREFIX|; s|@LIBDIR@|$(by_prefix "$LIBDIR")|; s|@INCLUDEDIR@|$(by_prefix "$INCLUDEDIR")|; s|@VERSION@|$VERSION|" pedralume.pc.in
+}
+by_prefix() { # PLACE
+    case $1 in
+    "$PREFIX"/*) printf '%s' "\${prefix}/${1#"$PREFIX"/}" ;;
+    *) printf '%s' "$1" ;;
+    esac
+}
+replay() {
+    cat <<END && cat replay.sh
+#!/bin/sh
+# Made by the install, from host/install.sh and host/replay.sh.
+name=pedralume-replay program=$LIBDIR/pedralume/replay
+ready() { [ -x "\$program" ] || fail 1 "\$program: no such program"; }
+END
+}
+
+# ---- the steps ----
+
+put_file() { # MODE SOURCE PLACE
+    place=$DESTDIR$3
+    new=$place.new.$$
+    mkdir -p "${place%/*}" || fail "${place%/*}: cannot be made"
+    [ ! -d "$place" ] || fail "$place: is a directory"
+    if ! { copy "$2" "$new" && chmod "$1" "$new" && mv -f "$new" "$place"; }; then
+        rm -f "$new"
+        fail "$place: cannot be written"
+    fi
+}
+copy() { # SOURCE FILE
+    case $1 in
+    @*) "${1#@}" >"$2" ;;
+    man/*) sed "s/@VERSION@/$VERSION/" "$1" >"$2" ;;
+    *) cp "$1" "$2" ;;
+    esac
+}
+put_link() { # TEXT PLACE
+    [ ! -d "$DESTDIR$2" ] || fail "$DESTDIR$2: is a directory"
+    ln -sf "$1" "$DESTDIR$2" || fail "$DESTDIR$2: cannot be written"
+}
+remove_file() { rm -f "$DESTDIR$3" || fail "$DESTDIR$3: cannot be removed"; } # MODE SOURCE PLACE
+remove_link() { rm -f "$DESTDIR$2" || fail "$DESTDIR$2: cannot be removed"; } # TEXT PLACE
+
+places() {
+    for variable in PREFIX BINDIR LIBDIR INCLUDEDIR MANDIR; do
+        value=
+        eval "value=\$$variable"
+        case $value in
+        "") fail "$variable is empty: it must be an absolute path" ;;
+        [!/]*) fail "$variable=$value: it must be an absolute path" ;;
+        *[!A-Za-z0-9/._+,:@~-]*) fail "$variable=$value: only letters, digits and the signs / . _ + , : @ ~ - are taken" ;;
+        esac
+    done
+    case $DESTDIR in
+    "" | /*) ;;
+    *) fail "DESTDIR=$DESTDIR: it must be empty or an absolute path" ;;
+    esac
+    expr "x$VERSION" : "x$number\.$number\.$number\$" >/dev/null || fail "include/pedralume.h: no version found"
+}
+
+places
+case $1 in
+places) ;;
+put)
+    files put_file
+    links put_link
+    ;;
+remove)
+    links remove_link
+    files remove_file
+    # its own folder, unless someone else has put something there
+    rmdir "$DESTDIR$LIBDIR/pedralume" 2>/dev/null || :
+    ;;
+*) fail "no such step: $1" ;;
+esac
