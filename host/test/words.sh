@@ -1,6 +1,6 @@
 #!/bin/sh
-# The words for a number: what pedralume_words gives, and that those who say them on their own say the same: the script that gives replay's status, and
-# the decoder for sigrok where there is one. Usage: words.sh, from any folder.
+# The words for a number: what pedralume_words gives, and that those who say them on their own say the same: the script that gives replay's status,
+# and the decoder for sigrok where there is one. Usage: words.sh, from any folder.
 set -u
 cd "$(dirname "$0")/.." || exit 1
 work=$(mktemp -d) || exit 1
@@ -51,7 +51,7 @@ while read -r number text; do check "$number is '$(words "$number")'" same "$(wo
 14 a column set over 79 (4F hex), the last column of RAM
 15 an entries buffer too short for the list
 END
-check "the numbers over 15 have other words" same "$(sed 1,16d "$work/said" | sed 's/^[0-9]* //' | sort -u)" "a number that this version does not know"
+check "the numbers over 15 have other words" same "$(sed '1,16d; s/^[0-9]* //' "$work/said" | sort -u)" "a number that this version does not know"
 check "not 258 lines" same "$(wc -l <"$work/said")" 258
 
 # ---- those who say them too ----

@@ -1,0 +1,354 @@
+#!/bin/sh
+# Runs make install and make uninstall in a copy of the project, and uses what is installed as a stranger would: clients built in a folder outside the
+# tree by what pkg-config says alone, the examples of the installed header among them, the programs, the man pages.
+# Usage: install.sh PROGRAM..., from any folder: what is installed as pedralume-PROGRAM. All must be built.
+set -u
+project=$(readlink -f "$(dirname "$0")/../..")
+work=$(mktemp -d) || exit 1
+trap 'umount "$work/disk" 2>/dev/null; rm -rf "$work"' EXIT
+trap 'exit 1' HUP INT TERM
+programs=$*
+mkdir "$work/a copy" "$work/a copy/target" "$work/client" || exit 1
+(cd "$project" && cp -Rp host examples "$work/a copy" && cp -Rp target/bin target/staticlib "$work/a copy/target") || exit 1
+cd "$work/a copy" || exit 1
+chmod -R u+w host
+unset MAKEFLAGS MAKEOVERRIDES MAKELEVEL PREFIX BINDIR LIBDIR INCLUDEDIR MANDIR DESTDIR
+unset PKG_CONFIG_LIBDIR PKG_CONFIG_SYSROOT_DIR LD_LIBRARY_PATH
+umask 077
+prefix=$work/prefix checks=0 failed=0
+
+check() { # LABEL COMMAND...: the command must succeed
+    label=$1
+    shift
+    checks=$((checks + 1))
+    "$@" || { failed=$((failed + 1)); echo "install: FAILED: $label"; }
+}
+same() { [ "$1" = "$2" ]; }
+run() { # COMMAND...: leaves $status, $work/out and $work/err
+    "$@" >"$work/out" 2>"$work/err"
+    status=$?
+}
+make_() { run make -s -C host "$@"; }
+good() { check "$1: status $status, says '$(cat "$work/err")'" same "$status $(cat "$work/err")" "0 "; } # LABEL
+bad() { # LABEL WORDS: it failed and said them, in a line of their own
+    check "$1: status 0" [ "$status" -ne 0 ]
+    check "$1: says '$(cat "$work/err")'" grep -qxF "$2" "$work/err"
+}
+missing() { command -v "$1" >/dev/null && return 1; echo "install: $1 is missing, so this was not run: $2"; } # TOOL WHAT
+# each file and link with mode, and sum or text; folders left out
+listing() { (cd "$1" && find . ! -type d | sort | while read -r file; do
+    if [ -L "$file" ]; then echo "$file -> $(readlink "$file")"; else echo "$file $(stat -c %a "$file") $(cksum <"$file")"; fi
+done); }
+names() { (cd "$1" && find . ! -type d | sort); } # FOLDER
+
+# ---- installed, twice, and under DESTDIR ----
+
+version=$(sed -nE 's/^#define PEDRALUME_VERSION_(MAJOR|MINOR|PATCH) //p' host/include/pedralume.h | paste -sd .)
+major=${version%%.*}
+{
+    printf '%s\n' "./include/pedralume.h 644" "./lib/libpedralume.a 644" "./lib/libpedralume.so -> libpedralume.so.$major" \
+        "./lib/libpedralume.so.$major -> libpedralume.so.$version" "./lib/libpedralume.so.$version 755" "./lib/pedralume/replay 755" \
+        "./lib/pkgconfig/pedralume.pc 644" "./bin/pedralume-replay 755" "./share/man/man1/pedralume-replay.1 644" "./share/man/man3/pedralume.3 644"
+    for program in $programs; do printf '%s\n' "./bin/pedralume-$program 755" "./share/man/man1/pedralume-$program.1 644"; done
+} | sort >"$work/expected"
+make_ install PREFIX="$prefix"; good "install"
+listing "$prefix" >"$work/first"
+check "install: other files or modes" same "$(sed -E 's/^([^>]* [0-9]{3}) [0-9]+ [0-9]+$/\1/' "$work/first" | sort)" "$(cat "$work/expected")"
+check "install: a folder that not all may enter" same "$(find "$prefix" -type d ! -perm 755)" ""
+make_ install PREFIX="$prefix"; good "install again"
+listing "$prefix" >"$work/second"
+check "install again: not the same" cmp -s "$work/first" "$work/second"
+for program in $programs; do check "$program: another than is built" cmp -s "host/build/$program" "$prefix/bin/pedralume-$program"; done
+cmp -s target/staticlib/libpedralume.a "$prefix/lib/libpedralume.a"; check "another archive" same $? 0
+cmp -s host/include/pedralume.h "$prefix/include/pedralume.h"; check "another header" same $? 0
+
+make_ install PREFIX=/opt/pedra DESTDIR="$work/a stage"; good "DESTDIR"
+names "$work/a stage/opt/pedra" >"$work/staged"
+check "DESTDIR: other files" same "$(cat "$work/staged")" "$(names "$prefix")"
+check "DESTDIR: its path is in a file" same "$(grep -rlF "$work" "$work/a stage/opt/pedra")" ""
+check "DESTDIR: pedralume-replay" grep -q "program=/opt/pedra/lib/pedralume/replay" "$work/a stage/opt/pedra/bin/pedralume-replay"
+make_ install PREFIX="$work/own" LIBDIR="$work/own/lib64" INCLUDEDIR="$work/headers" BINDIR="$work/own/programs" MANDIR="$work/own/man"
+good "own places"
+check "own places: what is where" same "$(cd "$work" && find own headers -name '*replay' -o -name '*.[3ah]' | sort | paste -sd ' ')" \
+    "headers/pedralume.h own/lib64/libpedralume.a own/lib64/pedralume/replay own/man/man3/pedralume.3 own/programs/pedralume-replay"
+check "own places: pedralume.pc" same "$(head -n 3 "$work/own/lib64/pkgconfig/pedralume.pc" | paste -sd ' ')" \
+    "prefix=$work/own libdir=\${prefix}/lib64 includedir=$work/headers"
+"$work/own/programs/pedralume-replay" examples/listing.trace >/dev/null; check "own places: pedralume-replay: status $?" same $? 0
+
+# ---- the shared library ----
+
+library=$prefix/lib/libpedralume.so.$version
+calls="changes feed_close feed_open feed_part frame repaint replay"
+check "the calls it shows" same "$(nm -D --defined-only "$library" | sed 's/.* //; s/^pedralume_//' | sort | paste -sd ' ')" "$calls"
+check "soname" same "$(readelf -d "$library" | sed -n 's/.*SONAME.*\[\(.*\)\]/\1/p')" "libpedralume.so.$major"
+check "it needs more than libc" same "$(readelf -d "$library" | sed -n 's/.*NEEDED.*\[\(.*\)\]/\1/p')" "libc.so.6"
+check "an executable stack" same "$(readelf -lW "$library" | grep GNU_STACK | grep -c E)" 0
+if ! missing python3 "a call from Python"; then
+    cat >"$work/call.py" <<'END'
+import ctypes, sys
+library = ctypes.CDLL(sys.argv[1])
+call = library.pedralume_frame
+call.restype = ctypes.c_uint64
+call.argtypes = [ctypes.c_char_p, ctypes.c_size_t] * 3
+chips = (b"\1\1\1" + bytes(9)) * 2
+frame = ctypes.create_string_buffer(488)
+answer = call(chips, 24, bytes(640), 640, frame, 488)
+print(answer & 255, answer >> 8, frame.raw == b"\xff" * 488)
+END
+    check "a call from Python: '$(python3 "$work/call.py" "$library" 2>&1)'" same "$(python3 "$work/call.py" "$library" 2>&1)" "0 488 True"
+fi
+
+# ---- the header's examples: a block of code begins with the line given and ends before the next line with nothing ----
+
+header=$prefix/include/pedralume.h
+example() { # NAME FIRST: writes NAME.inc
+    sed -n 's/^ \*$/ *   /; s/^ \*   //p' "$header" |
+        awk -v first="$2" 'index($0, first) == 1 { on = 1 } on && $0 == "" { exit } on' >"$work/client/$1.inc"
+    check "the header has no example $1" [ -s "$work/client/$1.inc" ]
+}
+example first "uint8_t chips["
+example repaint "uint8_t picture["
+example recorder "uint8_t feed["
+example changes "static const uint8_t fresh["
+example replay_long "static uint64_t replay_long("
+example list_long "static uint64_t list_long("
+sed -n '/^static const uint8_t trace/,/^};/p' "$work/client/first.inc" >"$work/client/trace.inc"
+sed 's/PEDRALUME_DATA_READ, \(.*0xA5\)/0x06, \1/' "$work/client/first.inc" >"$work/client/refused.inc"
+cp host/test/client.c "$work/client"
+cp host/test/client.c "$work/client/client.cpp"
+# the comment in one line, to find what it says that an example prints
+sed -n 's/^ \* *//p' "$header" | paste -sd ' ' | tr -s ' ' >"$work/comment"
+says() { check "the header does not say: $1" grep -qF "$1" "$work/comment"; } # WORDS
+prints() { # CLIENT NAME TEXT
+    run "$work/client/$1" "$2"
+    good "$1: $2"
+    check "$1: $2 prints '$(head -n 20 "$work/out")'" same "$(cat "$work/out")" "$3"
+}
+lines() { printf '%s\n' "$@"; }
+recorded=$(lines "0 0 00" "1 0 00" "2 0 00" "3 2 00" "4 1 A5")
+changed=$(lines "1 4 0" "4 0 8" "5 1948 0")
+blinked() { awk -v end="$1" 'BEGIN { for (i = 0; i < end; i++) if (i % 3) print i, 1952, 0 }'; } # RECORDS
+listed() { blinked 30000; lines "number 0"; blinked 16384; lines "spoilt: number 5 at 6"; }
+in_a_row() { printf '%s\n' "$1" | paste -sd '|' | sed 's/|/, then /g'; } # LINES: as the header has them
+says "It prints 0 of 1 compared reads differ."
+says "it prints number 6 at 4: RD and WR equal."
+says "it prints left chip: display off or static drive on."
+says "it prints $(in_a_row "$recorded"), then end 0 5 1 0: done."
+says "It prints $(in_a_row "$changed")."
+says "the number is 0, the place 100,000, the reads compared 20,000 and those that differ 0."
+says "it prints 20,000 lines, the first 1 1952 0, the last 29999 1952 0."
+check "list_long: other lines than the header says" same "$(blinked 30000 | sed -n '1p; $p; $=' | paste -sd '|')" "1 1952 0|29999 1952 0|20000"
+every_example() { # CLIENT
+    prints "$1" first "0 of 1 compared reads differ"
+    prints "$1" refused "number 6 at 4: RD and WR equal"
+    prints "$1" repaint "$(lines "0 of 1 compared reads differ" "left chip: display off or static drive on")"
+    prints "$1" recorder "$(lines "$recorded" "end 0 5 1 0: done")"
+    prints "$1" changes "$changed"
+    prints "$1" replay_long "$(lines "0 100000 20000 0" "cut: 3 99999" "spoilt: 5 70000")"
+    prints "$1" list_long "$(listed)"
+    prints "$1" frame "0 488 3904"
+    prints "$1" version "$version $version"
+    run "$work/client/$1" words; good "$1: words"
+    check "$1: words: not one line for each of 0 to 20" same "$(cut -d ' ' -f 1 "$work/out" | paste -sd ' ')" "$(seq 0 20 | paste -sd ' ')"
+    check "$1: words: an empty one" same "$(grep -cE '^[0-9]+ .+' "$work/out")" 21
+}
+
+# ---- clients, by what pkg-config says alone ----
+
+flags="-Wall -Wextra -Wpedantic -Wconversion -Werror"
+asked() { PKG_CONFIG_PATH=$prefix/lib/pkgconfig pkg-config "$@"; }
+build() { # CLIENT COMMAND...: in the clients' folder
+    client=$1
+    shift
+    run sh -c 'cd "$1" && shift && exec "$@"' - "$work/client" "$@" -o "$client"
+    good "$client: built"
+}
+if ! missing pkg-config "clients built by it"; then
+    check "pkg-config: does not find it" asked --exists pedralume
+    check "pkg-config: version $(asked --modversion pedralume)" same "$(asked --modversion pedralume)" "$version"
+    check "pkg-config: flags" same "$(asked --cflags --libs pedralume | sed 's/ *$//')" "-I$prefix/include -L$prefix/lib -lpedralume"
+    cflags=$(asked --cflags pedralume) libs=$(asked --libs pedralume) static=$(asked --static --libs pedralume)
+    # shellcheck disable=SC2086
+    {
+        build shared-c gcc -std=c99 $flags $cflags client.c $libs
+        build static-c gcc -std=c99 $flags $cflags client.c -static $static
+        build checked-c gcc -std=c99 $flags -g -fsanitize=address,undefined -fno-sanitize-recover=all $cflags client.c $libs
+        missing g++ "clients in C++" || {
+            build shared-c++ g++ -std=c++11 $flags $cflags client.cpp $libs
+            build static-c++ g++ -std=c++11 $flags $cflags client.cpp -static $static
+        }
+    }
+    run env LC_ALL=C "$work/client/shared-c" version
+    check "shared-c: runs without the library's folder" [ "$status" -ne 0 ]
+    check "static-c: needs a library" same "$(readelf -d "$work/client/static-c" | grep -c NEEDED)" 0
+    LD_LIBRARY_PATH=$prefix/lib
+    export LD_LIBRARY_PATH
+    for client in "$work"/client/shared-* "$work"/client/static-* "$work"/client/checked-*; do every_example "${client##*/}"; done
+    unset LD_LIBRARY_PATH
+fi
+
+# ---- the programs ----
+
+replay=$prefix/bin/pedralume-replay
+target/bin/replay <examples/listing.trace >"$work/answers"
+replayed() { good "$1"; check "$1: prints something else" cmp -s "$work/out" "$work/answers"; } # LABEL
+ended() { # LABEL STATUS WORDS
+    check "$1: status $status" same "$status" "$2"
+    check "$1: says '$(cat "$work/err")'" same "$(cat "$work/err")" "pedralume-replay: $3"
+}
+run "$replay" examples/listing.trace; replayed "pedralume-replay, a file"
+run "$replay" <examples/listing.trace; replayed "pedralume-replay, standard input"
+ln -s "$replay" "$work/link"
+run env name=x program=/bin/true "$work/link" examples/listing.trace; replayed "pedralume-replay, a link, with names of its own around"
+run "$replay" --help; good "pedralume-replay --help"
+check "pedralume-replay --help: usage" same "$(head -n 1 "$work/out")" "Usage: pedralume-replay [FILE]"
+run "$replay" -x; ended "pedralume-replay -x" 2 'unknown option "-x"; see pedralume-replay --help'
+run "$replay" a b; ended "pedralume-replay, two files" 2 'more than one file: "b"; see pedralume-replay --help'
+run "$replay" nowhere; ended "pedralume-replay, no file" 2 'nowhere: no such file'
+run "$replay" examples; ended "pedralume-replay, a directory" 2 'examples: is a directory'
+printf '\006\000\000\000' >"$work/equal"
+run "$replay" "$work/equal"; ended "pedralume-replay, refused" 1 'refused with number 6 at record 0: RD and WR equal'
+"$replay" examples/listing.trace >/dev/full 2>"$work/err"
+status=$?; ended "pedralume-replay, a full disk" 1 'standard output cannot be written'
+"$replay" --help >/dev/full 2>"$work/err"
+status=$?; ended "pedralume-replay --help, a full disk" 1 'standard output cannot be written'
+mv "$prefix/lib/pedralume/replay" "$work/away"
+run "$replay" examples/listing.trace; ended "pedralume-replay, no program" 1 "$prefix/lib/pedralume/replay: no such program"
+mv "$work/away" "$prefix/lib/pedralume/replay"
+for program in $programs; do
+    run "$prefix/bin/pedralume-$program" examples/name.trace; good "pedralume-$program"
+    check "pedralume-$program: prints nothing" [ -s "$work/out" ]
+done
+
+# ---- the man pages ----
+
+options() { grep -oE '(^|[^A-Za-z0-9-])--?[a-z][a-z-]*' | sed 's/^[^-]//' | sort -u; }
+section() { sed 's/\\-/-/g; s/\\f.//g' "$2" | sed -n "/^\\.SH $1\$/,/^\\.SH /p" | sed 1d; } # NAME PAGE
+apart() { # LABEL COLUMNS: what comm gives of the options of --help and of the page without these columns, which must be nothing
+    check "$1: $(comm "$2" "$work/helped" "$work/told" | paste -sd ' ')" same "$(comm "$2" "$work/helped" "$work/told")" ""
+}
+for program in $programs replay; do
+    page=host/man/pedralume-$program.1
+    run "$prefix/bin/pedralume-$program" --help; good "pedralume-$program --help"
+    section OPTIONS "$page" | options >"$work/told"
+    options <"$work/out" >"$work/helped"
+    apart "$page: has not these options of --help" -23
+    apart "$page: has options that --help has not" -13
+    check "$page: an option in its synopsis alone" same "$(section SYNOPSIS "$page" | options | comm -23 - "$work/told")" ""
+done
+for page in host/man/*.[13]; do
+    for part in NAME SYNOPSIS DESCRIPTION "SEE ALSO"; do check "$page: has no $part" grep -qx ".SH $part" "$page"; done
+    case $page in *.1) for part in OPTIONS "EXIT STATUS" EXAMPLES; do check "$page: has no $part" grep -qx ".SH $part" "$page"; done ;; esac
+done
+for call in $calls; do check "pedralume.3: not pedralume_$call" grep -q "pedralume_$call" host/man/pedralume.3; done
+check "a page with another version" same "$(cd "$prefix/share/man" && grep -LF "\"Pedralume $version\"" man?/*)" ""
+check "a placeholder that stays" same "$(grep -rIlE '@[A-Z]+@' "$prefix")" ""
+if ! missing man "man pages found by it and rendered"; then
+    for page in 1/pedralume-replay 3/pedralume $(for program in $programs; do echo "1/pedralume-$program"; done); do
+        run man -M "$prefix/share/man" -w "${page%/*}" "${page#*/}"; good "man -w $page"
+        check "man -w $page: finds '$(cat "$work/out")'" same "$(cat "$work/out")" "$prefix/share/man/man${page%/*}/${page#*/}.${page%/*}"
+    done
+    for page in host/man/*.[13]; do
+        run env MANROFFSEQ= MANWIDTH=80 LC_ALL=C.UTF-8 man --warnings -E UTF-8 -l -Tutf8 -Z "$page"; good "$page rendered"
+        check "$page: rendered to nothing" [ -s "$work/out" ]
+    done
+fi
+if ! missing groff "man pages rendered by it"; then
+    for page in host/man/*.[13]; do run groff -ww -man -Tutf8 -K utf8 "$page"; good "$page, by groff"; done
+fi
+
+# ---- wrong use: nothing is installed and the build is not begun ----
+
+touched() { listing "$prefix" >"$work/third"; check "$1: changed what is installed" cmp -s "$work/first" "$work/third"; } # LABEL
+for word in install uninstall; do
+    make_ $word PREFIX=; bad "$word, PREFIX empty" "install: PREFIX is empty: it must be an absolute path"
+    make_ $word PREFIX=usr; bad "$word, PREFIX relative" "install: PREFIX=usr: it must be an absolute path"
+    make_ $word PREFIX="$work/a b"
+    bad "$word, a space" "install: PREFIX=$work/a b: only letters, digits and the signs / . _ + , : @ ~ - are taken"
+    make_ $word PREFIX="$prefix" LIBDIR=lib; bad "$word, LIBDIR relative" "install: LIBDIR=lib: it must be an absolute path"
+    make_ $word PREFIX="$prefix" BINDIR=; bad "$word, BINDIR empty" "install: BINDIR is empty: it must be an absolute path"
+    make_ $word PREFIX=/usr DESTDIR=stage; bad "$word, DESTDIR relative" "install: DESTDIR=stage: it must be empty or an absolute path"
+done
+touched "wrong use"
+check "wrong use: makes a folder" same "$(ls -d "$work/a b" host/usr host/stage 2>/dev/null)" ""
+
+# ---- what is needed is missing or no good ----
+
+none() { check "$1: something is installed" [ ! -e "$work/none" ]; } # LABEL
+archive=../target/staticlib/libpedralume.a program=../target/bin/replay
+mv "host/$archive" "$work/archive"
+needed="$archive is missing: run \"rt staticlib pedralume\" in the project's folder"
+make_ install PREFIX="$work/none"; bad "no archive" "$needed"; none "no archive"
+make_ show; bad "no archive, show" "$needed"
+echo "no archive" >"host/$archive"
+make_ install PREFIX="$work/none"; check "a damaged archive: status $status" [ "$status" -ne 0 ]; none "a damaged archive"
+rm "host/$archive"; mkdir "host/$archive"
+make_ install PREFIX="$work/none"; check "an archive that is a folder: status $status" [ "$status" -ne 0 ]; none "an archive that is a folder"
+rmdir "host/$archive"; mv "$work/archive" "host/$archive"
+mv "host/$program" "$work/program"
+make_ install PREFIX="$work/none"; bad "no program" "$program is missing: run \"rt check replay\" in the project's folder"; none "no program"
+mv "$work/program" "host/$program"
+touch -r host/build/show "host/$archive"
+make_ install PREFIX="$prefix"; good "all there again"
+
+# ---- places that cannot be written ----
+
+: >"$work/file"
+make_ install PREFIX="$work/file/x"; bad "under a file" "install: $work/file/x/include: cannot be made"
+make_ install PREFIX=/dev/full/x; bad "under a device" "install: /dev/full/x/include: cannot be made"
+mkdir -p "$work/taken/lib/libpedralume.a"
+make_ install PREFIX="$work/taken"; bad "a folder in a file's place" "install: $work/taken/lib/libpedralume.a: is a directory"
+if [ "$(id -u)" -ne 0 ]; then
+    mkdir "$work/shut"; chmod 500 "$work/shut"
+    make_ install PREFIX="$work/shut"; bad "a folder that is shut" "install: $work/shut/include: cannot be made"
+fi
+
+# ---- a full disk: it fails, and each file that is there is whole ----
+
+whole() { # LABEL FOLDER: what is there is as in the good install; pedralume.pc and the script name the folder
+    check "$1: something is not whole" same "$(listing "$2" | grep -v 'pedralume.pc\|pedralume-replay ' | grep -vxF -f "$work/first")" ""
+    check "$1: an empty or half file" same "$(find "$2" -size 0 -o -name '*.new*')" ""
+}
+# files of at most so many blocks of 512 bytes: the first that is larger fails; at last only the largest does
+largest=$(find "$prefix" -type f -exec stat -c %s {} + | sort -n | tail -n 1)
+for blocks in 1 20 60 $(((largest - 1) / 512)); do
+    run sh -c 'ulimit -f "$1" && trap "" XFSZ && exec make -s -C host install PREFIX="$2"' - $blocks "$work/small$blocks"
+    check "at most $blocks blocks: status 0" [ "$status" -ne 0 ]
+    check "at most $blocks blocks: says '$(cat "$work/err")'" grep -q "^install: $work/small$blocks/.*: cannot be written$" "$work/err"
+    whole "at most $blocks blocks" "$work/small$blocks"
+done
+run sh -c 'ulimit -f 20 && exec make -s -C host install PREFIX="$1"' - "$prefix"
+check "over a good install: status 0" [ "$status" -ne 0 ]
+touched "over a good install, a full disk"
+mkdir "$work/disk"
+if mount -t tmpfs -o size=80k tmpfs "$work/disk" 2>/dev/null; then
+    make_ install PREFIX="$work/disk/p"
+    check "a full disk: status 0" [ "$status" -ne 0 ]
+    check "a full disk: says '$(cat "$work/err")'" grep -q "^install: $work/disk/p/.*: cannot be " "$work/err"
+    whole "a full disk" "$work/disk/p"
+    umount "$work/disk"
+else
+    echo "install: no small disk can be mounted, so a full one was tried by a limit on the size of files only"
+fi
+
+# ---- uninstall: what was installed goes, and nothing else ----
+
+for file in bin/other lib/pkgconfig/other.pc lib/libpedralume.so.0 share/man/man1/other.1; do : >"$prefix/$file"; done
+make_ uninstall PREFIX="$prefix"; good "uninstall"
+check "uninstall: leaves or takes" same "$(names "$prefix" | paste -sd ' ')" \
+    "./bin/other ./lib/libpedralume.so.0 ./lib/pkgconfig/other.pc ./share/man/man1/other.1"
+check "uninstall: its folder stays" [ ! -e "$prefix/lib/pedralume" ]
+make_ uninstall PREFIX="$prefix"; good "uninstall again"
+make_ install PREFIX="$prefix"; good "install after it"
+: >"$prefix/lib/pedralume/other"
+make_ uninstall PREFIX="$prefix"; good "uninstall beside a stranger's file"
+check "uninstall: takes a stranger's file" [ -e "$prefix/lib/pedralume/other" ]
+make_ uninstall PREFIX=/opt/pedra DESTDIR="$work/a stage"; good "uninstall, DESTDIR"
+check "uninstall, DESTDIR: leaves something" same "$(names "$work/a stage")" ""
+mv host/build "$work/build"
+make_ uninstall PREFIX="$work/own" LIBDIR="$work/own/lib64" INCLUDEDIR="$work/headers" BINDIR="$work/own/programs" MANDIR="$work/own/man"
+good "uninstall, own places, nothing built"
+check "uninstall, own places: leaves something" same "$(names "$work/own"; names "$work/headers")" ""
+
+echo "install: $checks checks, $failed failed"
+[ "$failed" -eq 0 ]
