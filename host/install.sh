@@ -54,6 +54,12 @@ END
 
 # ---- the steps ----
 
+readable() { # MODE SOURCE PLACE
+    case $2 in
+    @*) ;;
+    *) if [ ! -f "$2" ] || [ ! -r "$2" ]; then fail "$2: cannot be read"; fi ;;
+    esac
+}
 put_file() { # MODE SOURCE PLACE
     place=$DESTDIR$3
     new=$place.new.$$
@@ -99,8 +105,13 @@ places
 case $1 in
 places) ;;
 put)
+    # all of what is read before anything is written
+    files readable
+    readable - pedralume.pc.in
+    readable - replay.sh
     files put_file
     links put_link
+    echo "installed under $DESTDIR$PREFIX; where programs do not find the shared library, run ldconfig or set LD_LIBRARY_PATH"
     ;;
 remove)
     links remove_link

@@ -240,7 +240,11 @@ for page in host/man/*.[13]; do
     for part in NAME SYNOPSIS DESCRIPTION "SEE ALSO"; do check "$page: has no $part" grep -qx ".SH $part" "$page"; done
     case $page in *.1) for part in OPTIONS "EXIT STATUS" EXAMPLES; do check "$page: has no $part" grep -qx ".SH $part" "$page"; done ;; esac
 done
-for call in $calls; do check "pedralume.3: not pedralume_$call" grep -q "pedralume_$call" host/man/pedralume.3; done
+# the seven prototypes, without white space and the page's marks
+prototypes() { tr -d '" \n' | sed 's/\.BI//g' | grep -oE 'uint64_tpedralume_[a-z_]*\([^()]*\);'; }
+sed '1,/^#ifdef __cplusplus/d' "$header" | prototypes >"$work/declared"
+check "the header declares $(grep -c . "$work/declared") calls" same "$(grep -c . "$work/declared")" 7
+check "pedralume.3: other prototypes than the header has" same "$(section SYNOPSIS host/man/pedralume.3 | prototypes)" "$(cat "$work/declared")"
 check "a page with another version" same "$(cd "$prefix/share/man" && grep -LF "\"Pedralume $version\"" man?/*)" ""
 check "a placeholder that stays" same "$(grep -rIlE '@[A-Z]+@' "$prefix")" ""
 if ! missing man "man pages found by it and rendered"; then
@@ -288,6 +292,14 @@ rmdir "host/$archive"; mv "$work/archive" "host/$archive"
 mv "host/$program" "$work/program"
 make_ install PREFIX="$work/none"; bad "no program" "$program is missing: run \"rt check replay\" in the project's folder"; none "no program"
 mv "$work/program" "host/$program"
+mv host/man/pedralume.3 "$work/page"
+make_ install PREFIX="$work/none"; bad "no page" "install: man/pedralume.3: cannot be read"; none "no page"
+mv "$work/page" host/man/pedralume.3
+if [ "$(id -u)" -ne 0 ]; then
+    chmod 000 host/replay.sh
+    make_ install PREFIX="$work/none"; bad "a script that cannot be read" "install: replay.sh: cannot be read"; none "a script that cannot be read"
+    chmod 644 host/replay.sh
+fi
 touch -r host/build/show "host/$archive"
 make_ install PREFIX="$prefix"; good "all there again"
 
