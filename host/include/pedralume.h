@@ -246,8 +246,9 @@
  *
  * With three records, left display on (AF), static drive on (A5) and off (A4), 10,000 times over, 120,000
  * bytes, from fresh chips and RAM all 0, it prints 20,000 lines, the first 1 1952 0, the last 29999 1952 0.
- * A block with a refused record is refused whole, with the place counted from the block's first record;
- * the block's first 4 * place bytes, given alone, are listed. In both, the static buffers are for one thread.
+ * A block that is refused is refused whole, with the place counted from the block's first record. Its first
+ * 4 * place bytes can be listed alone, though after 3 there may be a record to refuse among them. In both
+ * loops the static buffers are for one thread at a time.
  *
  *
  * WHAT EACH CALL GIVES BACK: number + 256 * place + 2^24 * compared + 2^40 * differing; for the feed's
