@@ -1,7 +1,8 @@
 /*
- * A client of the installed library, built by install.sh outside the tree, as C and as C++. It takes the name of what to run. The files *.inc are the
- * examples of the installed header, as they stand in its comment: first, refused (the first with its last record spoilt), trace (the first's
- * records), repaint, recorder, changes, replay_long and list_long.
+ * A client of the installed library, built by install.sh outside the tree, as C and as C++. It takes the name of
+ * what to run. The files *.inc are the examples of the installed header, as they stand in its comment: first,
+ * refused (the first with its last record spoilt), trace (the first's records), repaint, recorder, changes,
+ * replay_long and list_long.
  */
 #include <pedralume.h>
 

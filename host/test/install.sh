@@ -319,7 +319,7 @@ fi
 
 whole() { # LABEL FOLDER: what is there is as in the good install; pedralume.pc and the script name the folder
     check "$1: something is not whole" same "$(listing "$2" | grep -v 'pedralume.pc\|pedralume-replay ' | grep -vxF -f "$work/first")" ""
-    check "$1: an empty or half file" same "$(find "$2" -size 0 -o -name '*.new*')" ""
+    check "$1: an empty or half file" same "$(find "$2" -type f \( -size 0 -o -name '*.new*' \))" ""
 }
 # files of at most so many blocks of 512 bytes: the first that is larger fails; at last only the largest does
 largest=$(find "$prefix" -type f -exec stat -c %s {} + | sort -n | tail -n 1)
