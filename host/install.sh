@@ -47,7 +47,7 @@ replay() {
     cat <<END && cat replay.sh
 #!/bin/sh
 # Made by the install, from host/install.sh and host/replay.sh.
-name=pedralume-replay program=$LIBDIR/pedralume/replay
+name=pedralume-replay program=$LIBDIR/pedralume/replay teller=$BINDIR/pedralume-text version=$VERSION
 ready() { [ -x "\$program" ] || fail 1 "\$program: no such program"; }
 END
 }

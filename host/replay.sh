@@ -1,18 +1,24 @@
 # What ../replay and the installed pedralume-replay share: they read it with `.`, or begin with what it needs, and have set
 #   $name      what the user calls it by
 #   $program   the proved program, which prints and gives no status
+#   $teller    what --text runs
+#   $version   what --version prints
 #   ready      a function that has the program there, or fails; called once the arguments are right
 # shellcheck shell=sh disable=SC2154
 
 usage() {
     cat <<END
 Usage: $name [FILE]
+       $name --text [FILE]
 
 Replays the bus records of FILE, or of standard input, on two fresh chips with RAM all 0. Prints
 record, kind and byte of each answer, then the end line: number, place, reads compared, reads that
-differ from the trace.
+differ from the trace. FILE may be - for standard input.
 
+  --text      each record in words and, where a read differs, what was recorded and what the chip
+              gives: what the program text does, also with a trace over 65,536 bytes
   -h, --help  print this
+  --version   print the version
 
 Status: 0 the whole trace is replayed; 1 it is refused, or there is no whole end line (it could not
 be read to its end, or standard output not be written, or the program not be built or found); 2 the
@@ -27,12 +33,21 @@ fail() { # STATUS WORDS...
     exit "$status"
 }
 
+if [ "${1-}" = --text ]; then
+    shift
+    exec "$teller" "$@"
+fi
 [ $# -le 1 ] || fail 2 "more than one file: \"$2\"; see $name --help"
 case ${1-} in
 -h | --help)
     usage 2>/dev/null || fail 1 "standard output cannot be written"
     exit
     ;;
+--version)
+    echo "$name (Pedralume) $version" 2>/dev/null || fail 1 "standard output cannot be written"
+    exit
+    ;;
+-) shift ;;
 -*) fail 2 "unknown option \"$1\"; see $name --help" ;;
 esac
 if [ $# -eq 1 ]; then
@@ -53,8 +68,8 @@ set -- $(printf %s "$text" | tail -n 2)
 # the words for a record are those of pedralume_words; test/words.sh holds them to that
 case $2 in
 0) exit 0 ;;
-1) fail 1 "refused with number 1: a trace over 65,536 bytes" ;;
-3) fail 1 "refused with number 3: a length that is no multiple of 4 (whole records: $3)" ;;
+1) fail 1 "refused with number 1: a trace over 65,536 bytes; $name --text takes it" ;;
+3) why="a trace that ends inside a record"; fail 1 "refused with number 3: $why (whole records: $3)" ;;
 4) why="spare line bits or the fourth byte not 0" ;;
 5) why="a chip over 1" ;;
 6) why="RD and WR equal" ;;

@@ -16,9 +16,12 @@ enum {
     STATUS_ARGUMENTS = 2
 };
 
-/* The program's name for messages, and its usage; each program has its own. */
-extern const char program[];
+/* Each program's own name, and its usage, in which every %s is that name. */
+extern const char own_name[];
 extern const char usage[];
+
+/* What the program calls itself in messages: its own name, or pedralume-... where it was installed so. */
+extern const char *program;
 
 /* ---- options.c: the arguments ---- */
 
@@ -31,6 +34,9 @@ struct option {
 
 /* Gives false, as do those that say why something failed, so that a caller can give its message back. */
 bool wrong_argument(const char *what, const char *argument);
+
+/* Before all else, with how the program was called. */
+void name_program(const char *called);
 
 /* Reads the arguments, values as "--at 3" or "--at=3". What is no option is the one file, which may be "-". */
 bool read_options(int argc, char **argv, const struct option *options, size_t count, const char **file);

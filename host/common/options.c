@@ -5,6 +5,15 @@
 #include <stdlib.h>
 #include <string.h>
 
+const char *program;
+
+void name_program(const char *called)
+{
+    const char *slash = called != NULL ? strrchr(called, '/') : NULL;
+    const char *name = slash != NULL ? slash + 1 : called;
+    program = name != NULL && strncmp(name, "pedralume-", strlen("pedralume-")) == 0 ? name : own_name;
+}
+
 bool wrong_argument(const char *what, const char *argument)
 {
     fprintf(stderr, "%s: %s \"%s\"; see %s --help\n", program, what, argument, program);
@@ -100,7 +109,7 @@ bool only_told(int argc, char **argv, int *status)
         return false;
     errno = 0;
     if (help)
-        fputs(usage, stdout);
+        printf(usage, program, program);
     else
         printf("%s (Pedralume) %s\n", program, PEDRALUME_VERSION);
     *status = all_printed() ? EXIT_SUCCESS : EXIT_FAILURE;

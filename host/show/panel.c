@@ -14,7 +14,7 @@ bool take_frame(const struct run *run, uint8_t frame[PEDRALUME_FRAME_BYTES])
                                       frame, PEDRALUME_FRAME_BYTES);
     if (pedralume_number(answer) == PEDRALUME_DONE)
         return true;
-    fprintf(stderr, "show: the frame is refused: number %u, %s\n", pedralume_number(answer),
+    fprintf(stderr, "%s: the frame is refused: number %u, %s\n", program, pedralume_number(answer),
             pedralume_words(pedralume_number(answer)));
     return false;
 }

@@ -11,11 +11,11 @@
 #include <string.h>
 #include <unistd.h>
 
-const char program[] = "show";
+const char own_name[] = "show";
 
 const char usage[] =
-    "Usage: show TRACE [--repaint PICTURE] [--at N] [--changes] [--every] [--pbm FILE] ...\n"
-    "       show --live\n"
+    "Usage: %s TRACE [--repaint PICTURE] [--at N] [--changes] [--every] [--pbm FILE] ...\n"
+    "       %s --live\n"
     "\n"
     "Sends the bus records of the file TRACE to two fresh chips with RAM all 0, and shows the\n"
     "122 by 32 panel as it is then. TRACE may be - for standard input, and has any length.\n"
@@ -284,6 +284,7 @@ int main(int argc, char **argv)
 {
     struct options options;
     int status;
+    name_program(argv[0]);
     if (only_told(argc, argv, &status))
         return status;
     if (!take_options(argc, argv, &options))

@@ -192,7 +192,7 @@ at_fault() { # LINE WORDS TEXT: refused with these words, nothing written
     printf -- "$3" >"$text"
     refused "at fault: $3" 1 "$text: line $1: $2" --back "$text"
 }
-begin="a record begins with left, right or raw" none="no such record, or a number out of its range; see text --help"
+begin="a record begins with left, right or raw" none="no such record, or a number out of its range; see --help"
 for words in "reset" "lefty reset" "both reset" "0 reset" "l" "12 left reset" "12 : left reset" "-1: left reset" ": left reset" "\377\376left reset"; do
     at_fault 1 "$begin" "$words"
 done

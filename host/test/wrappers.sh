@@ -6,7 +6,7 @@ project=$(readlink -f "$(dirname "$0")/../..")
 work=$(mktemp -d) || exit 1
 trap 'rm -rf "$work"' EXIT
 mkdir "$work/a copy" "$work/bin" "$work/folder"
-(cd "$project" && cp -Rp crates crates.txt tools host target replay show examples "$work/a copy") || exit 1
+(cd "$project" && cp -Rp crates crates.txt tools host target replay show text examples "$work/a copy") || exit 1
 cd "$work/a copy" || exit 1
 unset MAKEFLAGS MAKEOVERRIDES
 calls=$work/calls archive=target/staticlib/libpedralume.a real_rt=$(command -v rt)
@@ -43,6 +43,7 @@ cp target/bin/replay "$work/program"
 cp "$archive" "$work/archive"
 touch target/bin/replay "$archive"
 host/build/show examples/name.trace >"$work/shown" || exit 1
+host/build/text examples/name.trace >"$work/told" || exit 1
 host/build/show --live <examples/name.trace >"$work/live" || exit 1
 host/build/show examples/name.trace --repaint examples/name.pbm --changes >"$work/changes" || exit 1
 
@@ -51,12 +52,23 @@ host/build/show examples/name.trace --repaint examples/name.pbm --changes >"$wor
 replayed() { ended "$1" 0 ""; printed "$1" crates/replay/stdout; called "$1" "check replay"; } # LABEL
 run ./replay examples/listing.trace; replayed "a file"
 run ./replay <examples/listing.trace; replayed "standard input"
+run ./replay - <examples/listing.trace; replayed "-"
 ln -s "$PWD/replay" "$work/folder/replay"
 cp examples/listing.trace "$work/folder/t"
 run sh -c 'cd ../folder && ./replay t'; replayed "a link, from another folder"
 for option in --help -h; do
     run ./replay $option; ended "$option" 0 ""; called "$option" ""
     check "$option: usage" same "$(head -n 1 "$work/out")" "Usage: replay [FILE]"
+done
+
+run ./replay --version; ended "--version" 0 ""; called "--version" ""
+check "--version: '$(cat "$work/out")'" same "$(cat "$work/out")" "$(host/build/show --version | sed 's/show/replay/')"
+run ./replay --text examples/name.trace; ended "--text" 0 ""; printed "--text" "$work/told"; called "--text" ""
+run ./replay --text <examples/name.trace; ended "--text, standard input" 0 ""; printed "--text, standard input" "$work/told"
+run ./replay --text a b; ended "--text, two files" 2 'text: more than one file: "b"; see text --help'
+for option in --help --version; do
+    ./replay $option >/dev/full 2>"$work/err"
+    status=$?; ended "$option on a full disk" 1 "replay: standard output cannot be written"
 done
 
 # ---- replay: wrong uses ----
@@ -67,7 +79,7 @@ wrong() { # LABEL WORDS ARGUMENTS...
     run ./replay "$@"; ended "$use" 2 "replay: $words"; printed "$use" /dev/null; called "$use" ""
 }
 wrong "two files" 'more than one file: "b"; see replay --help' examples/listing.trace b
-for option in -x --foo - --; do wrong "$option" "unknown option \"$option\"; see replay --help" $option; done
+for option in -x --foo --; do wrong "$option" "unknown option \"$option\"; see replay --help" $option; done
 wrong "missing file" "nowhere: no such file" nowhere
 wrong "empty name" ": no such file" ""
 wrong "a directory" "examples: is a directory" examples
@@ -90,9 +102,9 @@ begun '\002\000\200\000' | refused "7 at record 9: a byte that is no command"
 begun '\002\000\340\000' | refused "8 at record 11: a column set while read-modify-write is on"
 begun '\002\000\144\000' | refused "14 at record 9: a column set over 79 (4F hex), the last column of RAM"
 begun '\002\000\340\000\002\000\144\000' | refused "8 at record 10: a column set while read-modify-write is on"
-begun '\002' | refused "3: a length that is no multiple of 4 (whole records: 18)"
+begun '\002' | refused "3: a trace that ends inside a record (whole records: 18)"
 status_reads() { awk 'BEGIN { for (i = 0; i < 16385; i++) printf "abcb" }' | tr abc '\004\000\140' | head -c "$1"; } # BYTES
-status_reads 65537 | refused "1: a trace over 65,536 bytes"
+status_reads 65537 | refused "1: a trace over 65,536 bytes; replay --text takes it"
 status_reads 65536 >"$work/t"
 "$work/program" <"$work/t" >"$work/listed"
 run ./replay "$work/t"; ended "the longest trace" 0 ""; printed "the longest trace" "$work/listed"
@@ -140,6 +152,10 @@ run ./show examples/name.trace --repaint examples/name.pbm --changes; ended "sho
 called "show --changes" ""
 run ./show --live examples/name.trace; ended "show --live with a file" 2 \
     'show: --live takes standard input and no file: "examples/name.trace"; see show --help'
+run ./text examples/name.trace; ended "text" 0 ""; printed "text" "$work/told"; called "text" ""
+run ./text <examples/name.trace; ended "text, standard input" 0 ""; printed "text, standard input" "$work/told"
+run ./text --back "$work/told"; ended "text --back" 0 ""; printed "text --back" examples/name.trace
+run ./text --foo; ended "text --foo" 2 'text: unknown option "--foo"; see text --help'
 run ./show; ended "show with no file" 2 'show: no file for "TRACE"; see show --help'
 ./show examples/name.trace >&- 2>"$work/err"
 status=$?; ended "show, closed output" 1 "standard output: cannot be written: Bad file descriptor"
@@ -160,7 +176,17 @@ run ./show examples/name.trace; shown "show, a source changed meanwhile" "static
 run ./show examples/name.trace; shown "show after it" "staticlib pedralume"
 rt_is "$real"
 echo "no Rattle" >>crates/pedralume/src/lib.rt
-run ./show examples/name.trace; ended "show, a broken source" 1 "show: the viewer cannot be built"; printed "show, a broken source" /dev/null
+run ./show examples/name.trace; ended "show, a broken source" 1 "show: the program cannot be built"; printed "show, a broken source" /dev/null
+run ./text examples/name.trace; ended "text, a broken source" 1 "text: the program cannot be built"; printed "text, a broken source" /dev/null
+mv host/build "$work/build"
+for program in show text; do # nothing need be built for the usage
+    for option in -h --help; do
+        run ./$program $option; ended "$program $option, nothing built" 0 ""; called "$program $option, nothing built" ""
+        "$work/build/$program" --help >"$work/usage"
+        printed "$program $option, nothing built" "$work/usage"
+    done
+done
+mv "$work/build" host/build
 
 # ---- two at once with nothing built: one builds, the other waits ----
 

@@ -114,7 +114,7 @@ static bool take_record(struct text *text, const char *words)
     else if (!take_words(&words, "left"))
         return wrong_line(text, "a record begins with left, right or raw");
     if (!take_cycle(words, record))
-        return wrong_line(text, "no such record, or a number out of its range; see text --help");
+        return wrong_line(text, "no such record, or a number out of its range; see --help");
     return append(&text->trace, record, RECORD);
 }
 

@@ -9,18 +9,18 @@
 #include <string.h>
 #include <unistd.h>
 
-const char program[] = "text";
+const char own_name[] = "text";
 
 const char usage[] =
-    "Usage: text [TRACE] [--start FILE]\n"
-    "       text --back [TEXT]\n"
+    "Usage: %s [TRACE] [--start FILE]\n"
+    "       %s --back [TEXT]\n"
     "\n"
     "Sends the bus records of the file TRACE to two fresh chips with RAM all 0, and prints a line for\n"
     "each: its number, its chip, what it does, its byte, and what the chip answers; where a read that\n"
     "is compared differs, what was recorded and what the chip gives. Then number, place and counts.\n"
     "With no file, or with -, it reads standard input.\n"
     "\n"
-    "  --start FILE  begin with the chips and RAM of FILE, which show --save wrote\n"
+    "  --start FILE  begin with the chips and RAM of FILE, which --save of show wrote\n"
     "  --back        the other way: make a text a trace, on standard output\n"
     "  -h, --help    print this\n"
     "  --version     print the version\n"
@@ -166,6 +166,7 @@ int main(int argc, char **argv)
     const char *file = NULL, *start = NULL, *back = NULL;
     const struct option options[] = { { "--start", true, &start }, { "--back", false, &back } };
     int status;
+    name_program(argv[0]);
     if (only_told(argc, argv, &status))
         return status;
     if (!read_options(argc, argv, options, sizeof options / sizeof options[0], &file))
