@@ -92,8 +92,11 @@ class Bus:
         return b''.join(record for record in records if self.hears(record[1]))
 
 
-def csv_text(bus):
-    return '\n'.join([','.join(bus.names())] + [','.join(map(str, levels)) for levels in bus.samples]) + '\n'
+def csv_text(bus, order=None, captions=None):
+    """As CSV, a line for each sample; the columns in this order, with these captions in place of the names."""
+    places = [NAMES.index(name) for name in order or bus.names()]
+    rows = [captions or order or bus.names()] + [[str(levels[place]) for place in places] for levels in bus.samples]
+    return '\n'.join(map(','.join, rows)) + '\n'
 
 
 def vcd_text(bus):

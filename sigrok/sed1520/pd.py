@@ -134,11 +134,6 @@ class Decoder(srd.Decoder):
         for option in Decoder.options:
             if self.options[option['id']] not in option['values']:
                 raise ValueError('%s is one of %s, not "%s"' % (option['id'], ', '.join(option['values']), self.options[option['id']]))
-        # Asked once: in libsigrokdecode 0.5.3 each call of has_channel takes away a reference to True that it does not own,
-        # and where too few are left Python aborts.
-        self.two_selects = self.has_channel(CS1)
-        if self.two_selects and self.options['one_select'] != 'left':
-            raise ValueError('one_select is for captures without cs1')
         self.active = 1 if self.options['cs_polarity'] == 'active-high' else 0
 
     def selected(self, pins):
@@ -232,11 +227,19 @@ class Decoder(srd.Decoder):
                 self.low_since[strobe] = self.samplenum
             self.seen[strobe].update(self.selected(now))
 
-    def decode(self):
-        any_edge = [{place: 'e'} for place in range(CS1 + 1 if self.two_selects else CS1)]
-        pins = self.wait({'skip': 0})
+    def begin(self, pins):
+        '''At the first sample. A channel that is not connected has 255 there; has_channel would say the same, but in
+        libsigrokdecode 0.5.3 it gives away a reference to True or False that is not its own, and Python may abort at the end.'''
+        self.two_selects = pins[CS1] in (0, 1)
+        if self.two_selects and self.options['one_select'] != 'left':
+            raise ValueError('one_select is for captures without cs1')
         self.unpowered = not pins[RD] and not pins[WR]
         self.change(pins, pins)
+
+    def decode(self):
+        pins = self.wait({'skip': 0})
+        self.begin(pins)
+        any_edge = [{place: 'e'} for place in range(CS1 + 1 if self.two_selects else CS1)]
         # Between two changes of any line all lines stand still, so the last change gives the sample before the next.
         while True:
             before, pins = pins, self.wait(any_edge)
