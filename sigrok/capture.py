@@ -46,7 +46,7 @@ class Bus:
             self.hold(self.chance.randrange(1, 4), **changed)
 
     def fall(self, strobes, chips):
-        """The strobes fall, the later one with the bus as good as the earlier one; the selects may come with them or before."""
+        """The strobes fall, in any order; the selects come with them or before. The last to fall is not sampled yet."""
         order = list(strobes)
         if self.chance:
             self.chance.shuffle(order)
@@ -58,7 +58,7 @@ class Bus:
         self.lines.update(dict.fromkeys(order, 0), **self.select(*chips))
 
     def rise(self, strobes):
-        """The strobes rise, in the first sample with one of them high all else may be released."""
+        """The strobes rise, in any order; from the first sample with one of them high the bus is released."""
         order = list(strobes)
         if self.chance:
             self.chance.shuffle(order)
@@ -80,7 +80,7 @@ class Bus:
         self.rise(strobes)
 
     def play(self, trace):
-        """The records of a trace, one cycle each; a bus has only records with lines 0 to 5 but no 2 chips and no spare bits."""
+        """The records of a trace, one cycle each. With lines 0 or 1 both strobes are low; 6 and 7 have none, so no bus gives them."""
         for at in range(0, len(trace), 4):
             lines, chip, data, _ = trace[at:at + 4]
             self.cycle(lines, (chip,), data)

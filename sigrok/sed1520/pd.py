@@ -27,10 +27,10 @@ COMMANDS = {
     0xa5: ('Static drive on', 'Static on'),
     0xa8: ('Select duty 1/16', 'Duty 1/16'),
     0xa9: ('Select duty 1/32', 'Duty 1/32'),
-    0xae: ('Display off', 'Off'),
-    0xaf: ('Display on', 'On'),
+    0xae: ('Display off', 'Display off'),
+    0xaf: ('Display on', 'Display on'),
     READ_MODIFY_WRITE: ('Read-modify-write', 'RMW'),
-    0xe2: ('Reset', 'Res'),
+    0xe2: ('Reset', 'Reset'),
     END: ('End', 'End'),
 }
 
@@ -124,6 +124,7 @@ class Decoder(srd.Decoder):
         self.seen = {RD: set(), WR: set()}          # chips selected at any sample since the strobe fell
         self.taken = {RD: False, WR: False}         # low still, but in an overlap that is over: its own rise gives no record
         self.unpowered = False                      # both strobes are low since the capture's start
+        self.two_selects = False
         self.read_modify_write = [False, False]
         self.records = 0
 
