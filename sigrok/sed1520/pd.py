@@ -150,7 +150,7 @@ class Decoder(srd.Decoder):
         self.put(ss, self.samplenum, self.out_ann, [WARNING, [text, medium, short]])
 
     def refusal(self, lines, chip, byte):
-        '''The number with which the model refuses the record, or 0. What it refuses changes nothing.'''
+        '''The number with which the model refuses the record; or 0, and the chip's read-modify-write switch is as after it.'''
         if lines < 2:
             return 6
         if lines != 2:
