@@ -7,6 +7,7 @@
  */
 #include "show.h"
 
+#include <errno.h>
 #include <stdlib.h>
 #include <string.h>
 #include <unistd.h>
@@ -26,6 +27,8 @@ const char usage[] =
     "  --repaint PICTURE  after the whole trace, send the 254 records that repaint the panel with\n"
     "                     PICTURE, a PBM (P1 or P4) of 122 by 16, or by 32 with a blank lower half;\n"
     "                     1 = lit\n"
+    "  --records FILE     with --repaint: also write the records of the repaint that are sent to FILE, as a\n"
+    "                     trace\n"
     "  --at N             send only the first N records of the trace; with --repaint, only the\n"
     "                     first N records of the repaint; N may be 0\n"
     "  --changes          instead of the panel at the end, each record that changed what it shows, with\n"
@@ -66,6 +69,7 @@ struct options {
     const char *start;
     const char *save;
     const char *repaint;
+    const char *records;
     const char *at;
     const char *changes;
     const char *list;
@@ -90,11 +94,18 @@ static bool is_dash(const char *path)
     return path != NULL && strcmp(path, "-") == 0;
 }
 
+/* How many of the files that are written are standard output: where one is, no text goes there. */
+static int to_standard_output(const struct options *options)
+{
+    return is_dash(options->pbm) + is_dash(options->save) + is_dash(options->records);
+}
+
 /* What --live does not go with. */
 static bool check_live(const struct options *options)
 {
     const struct option others[] = {
-        { "--repaint", true, (const char **)&options->repaint }, { "--at", true, (const char **)&options->at },
+        { "--repaint", true, (const char **)&options->repaint }, { "--records", true, (const char **)&options->records },
+        { "--at", true, (const char **)&options->at },
         { "--changes", false, (const char **)&options->changes }, { "--list", false, (const char **)&options->list },
         { "--every", false, (const char **)&options->every }, { "--delay", true, (const char **)&options->delay },
         { "--pbm", true, (const char **)&options->pbm },
@@ -121,16 +132,19 @@ static bool check_options(const struct options *options)
         return wrong_argument("--list goes with", "--changes");
     if (options->delay != NULL && options->every == NULL)
         return wrong_argument("--delay goes with", "--every");
-    if (is_dash(options->trace) && is_dash(options->start))
-        return wrong_argument("--start and the trace cannot both be", "-");
-    return !(is_dash(options->pbm) && is_dash(options->save)) || wrong_argument("--pbm and --save cannot both be", "-");
+    if (options->records != NULL && options->repaint == NULL)
+        return wrong_argument("--records goes with", "--repaint");
+    if (is_dash(options->trace) + is_dash(options->start) + is_dash(options->repaint) > 1)
+        return wrong_argument("only one of the files that are read can be", "-");
+    return to_standard_output(options) <= 1 || wrong_argument("only one of --pbm, --save and --records can be", "-");
 }
 
 static bool take_options(int argc, char **argv, struct options *options)
 {
     const struct option all[] = {
         { "--start", true, &options->start }, { "--save", true, &options->save },
-        { "--repaint", true, &options->repaint }, { "--at", true, &options->at },
+        { "--repaint", true, &options->repaint }, { "--records", true, &options->records },
+        { "--at", true, &options->at },
         { "--changes", false, &options->changes }, { "--list", false, &options->list },
         { "--every", false, &options->every }, { "--delay", true, &options->delay },
         { "--pbm", true, &options->pbm }, { "--form", true, &options->form },
@@ -227,6 +241,16 @@ static bool send_repaint(struct run *run, const struct options *options, struct 
     return append(kept, records, count * RECORD) && send_bytes(run, records, count * RECORD);
 }
 
+static bool write_records(const char *path, const struct bytes *records)
+{
+    FILE *file = open_output(path);
+    if (file == NULL)
+        return false;
+    errno = 0;
+    bool good = records->length == 0 || fwrite(records->at, 1, records->length, file) == records->length;
+    return close_output(file, path, good || file_failed(path, "cannot be written"));
+}
+
 /* ---- what is shown ---- */
 
 static bool show_changes(const struct options *options, const struct batch *batch)
@@ -240,7 +264,7 @@ static bool show_changes(const struct options *options, const struct batch *batc
     }
     if (options->pbm != NULL && !write_changes(options->pbm, &changes, batch))
         return false;
-    if (is_dash(options->pbm) || is_dash(options->save))
+    if (to_standard_output(options) > 0)
         return true;
     bool pages = options->list == NULL && changes.count > 0 && isatty(STDIN_FILENO) && isatty(STDOUT_FILENO);
     return pages ? page_changes(&changes, batch) : print_changes(&changes, batch);
@@ -251,7 +275,7 @@ static bool show_panel(const struct options *options, const struct run *run)
     uint8_t frame[PEDRALUME_FRAME_BYTES];
     if (!take_frame(run, frame) || (options->pbm != NULL && !write_frame(options->pbm, frame)))
         return false;
-    if (is_dash(options->pbm) || is_dash(options->save))
+    if (to_standard_output(options) > 0)
         return true;
     print_frame(frame);
     return all_printed();
@@ -274,7 +298,8 @@ static bool show_trace(const struct options *options)
         if (!send_repaint(&run, options, &kept))
             return false;
     }
-    if (options->save != NULL && !save_run(&run, options->save))
+    if ((options->save != NULL && !save_run(&run, options->save))
+        || (options->records != NULL && !write_records(options->records, &kept)))
         return false;
     struct batch batch = { &before, kept.at, kept.length / RECORD };
     return again ? show_changes(options, &batch) : show_panel(options, &run);

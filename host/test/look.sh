@@ -104,8 +104,16 @@ for option in "--every" "--list" "--delay 1"; do
     refused "live, $option" 2 "show: --live goes without \"${option% *}\"; see show --help" --live $option
 done
 refused "live, saved to standard output" 2 'show: --live goes without --save to "-"; see show --help' --live --save -
-refused "two standard inputs" 2 'show: --start and the trace cannot both be "-"; see show --help' - --start -
-refused "two standard outputs" 2 'show: --pbm and --save cannot both be "-"; see show --help' "$t" --pbm - --save -
+for arguments in "- --start -" "- --repaint -" "$t --start - --repaint -"; do
+    # shellcheck disable=SC2086
+    refused "two standard inputs, $arguments" 2 'show: only one of the files that are read can be "-"; see show --help' $arguments
+done
+for arguments in "--pbm - --save -" "--repaint $new_name --pbm - --records -" "--repaint $new_name --records - --save -"; do
+    # shellcheck disable=SC2086
+    refused "two standard outputs, $arguments" 2 'show: only one of --pbm, --save and --records can be "-"; see show --help' "$t" $arguments
+done
+refused "--records alone" 2 'show: --records goes with "--repaint"; see show --help' "$t" --records "$work/r"
+refused "live, --records" 2 'show: --live goes without "--records"; see show --help' --live --records "$work/r"
 
 # ---- pictures to standard output, and none over a file that is read ----
 
@@ -231,6 +239,20 @@ refused "a state that is a folder" 1 "$work: cannot be read: Is a directory" "$t
 refused "saved in no folder" 1 "$work/none/x: cannot be written: No such file or directory" "$t" --save "$work/none/x"
 refused "saved over a folder" 1 "$work: cannot be written: Is a directory" "$t" --save "$work"
 refused "saved on a full disk" 1 "/dev/full: cannot be written: No space left on device" "$t" --save /dev/full
+
+# ---- the records of a repaint, as a trace ----
+
+for n in 0 1 253 254; do
+    "$show" "$example" --repaint "$new_name" --at $n >"$work/wanted"
+    same_as "records, at $n" "$example" --repaint "$new_name" --at $n --records "$work/r.trace"
+    check "records, at $n: length" same "$(wc -c <"$work/r.trace")" $((4 * n))
+    same_as "records, at $n, sent" "$work/r.trace" --start "$work/state"
+done
+run "$example" --repaint "$new_name" --records -; done_with "records to standard output" 0 ""; printed "records to standard output" "$work/r.trace"
+"$show" "$example" --repaint - <"$new_name" >"$work/out"; printed "a picture on standard input" "$work/wanted"
+kept "the start, --records" "$work/state" --start "$work/state" --repaint "$new_name" --records "$work/state"
+refused "records on a full disk" 1 "/dev/full: cannot be written: No space left on device" "$example" --repaint "$new_name" --records /dev/full
+refused "records in no folder" 1 "$work/none/x: cannot be written: No such file or directory" "$example" --repaint "$new_name" --records "$work/none/x"
 
 # ---- traces over 16,384 records ----
 

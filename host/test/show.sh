@@ -598,7 +598,7 @@ for arguments in "--help" "-h" "$t --foo --help"; do
     check "$arguments: a message" [ ! -s "$work/err" ]
     check "$arguments: usage" same "$(head -n 1 "$work/out")" "Usage: show TRACE [--repaint PICTURE] [--at N] [--changes] [--every] [--pbm FILE] ..."
     check "$arguments: usage, live" same "$(sed -n 2p "$work/out")" "       show --live"
-    for option in --start --save --repaint --at --changes --list --every --delay --pbm --form --live "-h, --help" --version; do
+    for option in --start --save --repaint --records --at --changes --list --every --delay --pbm --form --live "-h, --help" --version; do
         check "$arguments: $option" same "$(grep -c -e "^  $option " "$work/out")" 1
     done
 done
