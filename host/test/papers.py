@@ -1,0 +1,128 @@
+#!/usr/bin/env python3
+"""Holds the papers to what the programs do: runs each command that README.md or a file of docs/ shows, and compares what it prints with what
+the paper says; computes the bytes that docs/FORMATS.md gives; and compares its table of numbers with the words that the library has.
+
+A command is an indented line that begins with "$ "; the indented lines after it are what it prints, ".." standing for any lines. It is run with
+links to the programs and examples in a folder of its own, which the commands of one paper share. Usage: papers.py, from any folder, with the
+programs and host/build/libpedralume.so built."""
+import ctypes
+import os
+import re
+import subprocess
+import sys
+import tempfile
+
+ROOT = os.path.dirname(os.path.dirname(os.path.dirname(os.path.abspath(__file__))))
+PAPERS = ["README.md", "docs/FORMATS.md"]
+INDENT = "    "
+FRESH = bytes([0, 0, 1] + [0] * 9) * 2
+
+checks = 0
+failed = 0
+
+
+def check(label, good, said=""):
+    global checks, failed
+    checks += 1
+    if not good:
+        failed += 1
+        print(f"papers: FAILED: {label}" + (f"\n{said}" if said else ""))
+
+
+def read(path):
+    with open(os.path.join(ROOT, path), encoding="utf-8") as file:
+        return file.read()
+
+
+# ---- commands ----
+
+def commands_of(text):
+    """Pairs of a command and the lines that it prints."""
+    found, lines = [], None
+    for line in text.split("\n"):
+        if line.startswith(INDENT + "$ "):
+            lines = []
+            found.append((line[len(INDENT) + 2:], lines))
+        elif line.startswith(INDENT) and lines is not None:
+            lines.append(line[len(INDENT):])
+        else:
+            lines = None
+    return found
+
+
+def pattern_of(lines):
+    """Each line as it is, but for "..", which is any lines."""
+    return "".join(r"(?:.*\n)*" if line == ".." else re.escape(line) + r"\n" for line in lines)
+
+
+def try_paper(path, folder):
+    for name in ["replay", "show", "text", "examples", "sigrok"]:
+        os.symlink(os.path.join(ROOT, name), os.path.join(folder, name))
+    environment = dict(os.environ, LC_ALL="C.UTF-8")
+    for command, lines in commands_of(read(path)):
+        run = subprocess.run(["bash", "-o", "pipefail", "-c", command], cwd=folder, env=environment, capture_output=True, text=True, check=False)
+        check(f"{path}: {command}: says {run.stderr!r}", run.stderr == "")
+        check(f"{path}: {command}: prints something else", re.fullmatch(pattern_of(lines), run.stdout), run.stdout[:2000])
+
+
+# ---- bytes ----
+
+def lent(content):
+    return (ctypes.c_uint8 * len(content)).from_buffer_copy(bytes(content))
+
+
+class Library:
+    def __init__(self):
+        self.library = ctypes.CDLL(os.path.join(ROOT, "host/build/libpedralume.so"))
+
+    def call(self, name, *buffers):
+        function = getattr(self.library, "pedralume_" + name)
+        function.restype = ctypes.c_uint64
+        return function(*(argument for buffer in buffers for argument in (buffer, ctypes.c_size_t(len(buffer)))))
+
+
+def words(content):
+    return bytes(content).hex(" ").upper()
+
+
+def try_bytes(text):
+    """The examples of FORMATS.md that are no commands, with spaces and line ends taken as one space."""
+    library, flat = Library(), " ".join(text.split())
+    feed, ram = lent([0xEE] * 48), lent([0] * 640)
+    library.call("feed_open", feed, lent(FRESH))
+    library.call("feed_part", feed, ram, lent(bytes.fromhex("02000A000300")), lent([0] * 4))
+    check("the feed record", words(feed) in flat, words(feed))
+    trace = re.findall(r"`((?:[0-9A-F]{2} ){3}00)`", text[text.index("## Entry of a change"):text.index("have the entries")])
+    entries = lent([0] * 48)
+    answer = library.call("changes", lent(FRESH), lent([0] * 640), lent(bytes.fromhex("".join(trace))), entries)
+    check("the entries' number", answer == 256 * 3, hex(answer))
+    check("the entries", words(entries)[:3 * 24 - 1] in flat, words(entries))
+    listing = lent(open(os.path.join(ROOT, "examples/listing.trace"), "rb").read())
+    answer = library.call("replay", lent(FRESH), lent([0] * 640), listing, lent([0] * 18))
+    check("the 64-bit answer", f"`{answer:#x}`" in flat, hex(answer))
+    check("the fresh chip", f"`{words(FRESH[:12])}`" in flat)
+
+
+# ---- numbers ----
+
+def try_numbers(text):
+    header = read("host/include/pedralume.h")
+    values = dict(re.findall(r"(PEDRALUME_[A-Z_]+) = (\d+)", header[header.index("/* Numbers given back. */"):]))
+    said = re.findall(r'case (PEDRALUME_[A-Z_]+):\s+return "(.*)";', header)
+    wanted = sorted((int(values[name]), sentence) for name, sentence in said)
+    table = text[text.index("## Numbers"):]
+    told = [(int(number), sentence) for number, sentence in re.findall(r"^\| (\d+) \| ([^|]*) \|", table, re.M)]
+    check("the table of numbers", told == wanted and len(told) == 16, f"{told}\n{wanted}")
+
+
+def main():
+    for path in PAPERS:
+        with tempfile.TemporaryDirectory() as folder:
+            try_paper(path, folder)
+    try_bytes(read("docs/FORMATS.md"))
+    try_numbers(read("docs/FORMATS.md"))
+    print(f"papers: {checks} checks, {failed} failed")
+    sys.exit(failed != 0)
+
+
+main()
