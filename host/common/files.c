@@ -19,9 +19,11 @@ static struct {
 } used[USED_MAX];
 static size_t used_count;
 
+/* What is still "-" here was to be written: an input has a name of its own. */
 bool file_failed(const char *path, const char *what)
 {
-    fprintf(stderr, "%s: %s: %s\n", path, what, errno != 0 ? strerror(errno) : "reason unknown");
+    const char *name = strcmp(path, "-") == 0 ? "standard output" : path;
+    fprintf(stderr, "%s: %s: %s\n", name, what, errno != 0 ? strerror(errno) : "reason unknown");
     return false;
 }
 

@@ -127,9 +127,6 @@ done
 for arguments in "--pbm -" "--changes --pbm -" "--every --pbm -" "--save -" "--every"; do
     # shellcheck disable=SC2086
     "$show" "$t" $arguments >/dev/full 2>"$work/err"; status=$?
-    case $arguments in # whichever notices first
-    *pbm*) sed -i 's/^-: /standard output: /' "$work/err" ;;
-    esac
     done_with "$arguments on a full disk" 1 "standard output: cannot be written: No space left on device"
 done
 
