@@ -25,10 +25,19 @@ files() { # COMMAND: calls it for each file with mode, source and place; a sourc
     "$1" 755 @replay "$BINDIR/pedralume-replay"
     "$1" 644 man/pedralume-replay.1 "$MANDIR/man1/pedralume-replay.1"
     "$1" 644 man/pedralume.3 "$MANDIR/man3/pedralume.3"
+    "$1" 644 ../docs/FORMATS.md "$DOCDIR/FORMATS.md"
 }
 links() { # COMMAND: calls it for each link with its text and place
     "$1" "libpedralume.so.$VERSION" "$LIBDIR/libpedralume.so.${VERSION%%.*}"
     "$1" "libpedralume.so.${VERSION%%.*}" "$LIBDIR/libpedralume.so"
+    for call in replay frame repaint feed_open feed_part feed_close changes words; do
+        "$1" pedralume.3 "$MANDIR/man3/pedralume_$call.3"
+    done
+}
+earlier() { # prints the shared libraries of this first number that are of another version: the links lead to this one only
+    for library in "$DESTDIR$LIBDIR/libpedralume.so.${VERSION%%.*}".*; do
+        if [ -f "$library" ] && [ "$library" != "$DESTDIR$LIBDIR/libpedralume.so.$VERSION" ]; then echo "$library"; fi
+    done
 }
 
 # ---- the two that are made here ----
@@ -60,6 +69,11 @@ readable() { # MODE SOURCE PLACE
     *) if [ ! -f "$2" ] || [ ! -r "$2" ]; then fail "$2: cannot be read"; fi ;;
     esac
 }
+no_folder() { [ ! -d "$DESTDIR$2" ] || fail "$DESTDIR$2: is a directory"; } # TEXT PLACE
+as_the_sources() { # FILE COMMAND: the file is not older than what it is made from, where that is there
+    [ -z "$(find ../crates ../crates.txt -newer "$1" 2>/dev/null | head -n 1)" ] ||
+        fail "$1: is older than the sources; run $2 in the project's folder"
+}
 put_file() { # MODE SOURCE PLACE
     place=$DESTDIR$3
     new=$place.new.$$
@@ -78,14 +92,13 @@ copy() { # SOURCE FILE
     esac
 }
 put_link() { # TEXT PLACE
-    [ ! -d "$DESTDIR$2" ] || fail "$DESTDIR$2: is a directory"
     ln -sf "$1" "$DESTDIR$2" || fail "$DESTDIR$2: cannot be written"
 }
 remove_file() { rm -f "$DESTDIR$3" || fail "$DESTDIR$3: cannot be removed"; } # MODE SOURCE PLACE
 remove_link() { rm -f "$DESTDIR$2" || fail "$DESTDIR$2: cannot be removed"; } # TEXT PLACE
 
 places() {
-    for variable in PREFIX BINDIR LIBDIR INCLUDEDIR MANDIR; do
+    for variable in PREFIX BINDIR LIBDIR INCLUDEDIR MANDIR DOCDIR; do
         value=
         eval "value=\$$variable"
         case $value in
@@ -109,15 +122,21 @@ put)
     files readable
     readable - pedralume.pc.in
     readable - replay.sh
+    links no_folder
+    as_the_sources "$ARCHIVE" "./show --version, which builds it,"
+    as_the_sources "$PROGRAM" "./replay examples/listing.trace, which builds it,"
     files put_file
     links put_link
+    earlier | while read -r library; do rm -f "$library"; done
     echo "installed under $DESTDIR$PREFIX; where programs do not find the shared library, run ldconfig or set LD_LIBRARY_PATH"
     ;;
 remove)
     links remove_link
     files remove_file
-    # its own folder, unless someone else has put something there
+    earlier | while read -r library; do rm -f "$library"; done
+    # its own folders, unless someone else has put something there
     rmdir "$DESTDIR$LIBDIR/pedralume" 2>/dev/null || :
+    rmdir "$DESTDIR$DOCDIR" 2>/dev/null || :
     ;;
 *) fail "no such step: $1" ;;
 esac

@@ -11,19 +11,21 @@ usage() {
 Usage: $name [FILE]
        $name --text [FILE]
 
-Replays the bus records of FILE, or of standard input, on two fresh chips with RAM all 0. Prints
-record, kind and byte of each answer, then the end line: number, place, reads compared, reads that
-differ from the trace. FILE may be - for standard input.
+Replays the bus records of FILE, or of standard input, on two fresh chips with
+RAM all 0. Prints record, kind and byte of each answer, then the end line:
+number, place, reads compared, reads that differ from the trace. FILE may be -
+for standard input.
 
-  --text      each record in words and, where a read differs, what was recorded and what the chip
-              gives: what the program text does, also with a trace over 65,536 bytes
+  --text      each record in words and, where a read differs, what was recorded
+              and what the chip gives; also of a trace over 65,536 bytes
   -h, --help  print this
   --version   print the version
 
-Status: 0 the whole trace is replayed; 1 it is refused, or there is no whole end line (it could not
-be read to its end, or standard output not be written, or the program not be built or found); 2 the
-argument is at fault: an unknown option, more than one, or a file or a standard input that is
-missing, a directory or not readable.
+Status: 0 the whole trace is replayed; 1 it is refused, or there is no whole
+end line (it could not be read to its end, or standard output not be written,
+or the program not be built or found); 2 the argument is at fault: an unknown
+option, more than one file, or a file or a standard input that is missing, a
+directory or not readable.
 END
 }
 fail() { # STATUS WORDS...
@@ -33,28 +35,44 @@ fail() { # STATUS WORDS...
     exit "$status"
 }
 
-if [ "${1-}" = --text ]; then
-    shift
+told=
+# what may stand anywhere before --
+for argument; do
+    case $argument in
+    --) break ;;
+    -h | --help)
+        usage 2>/dev/null || fail 1 "standard output cannot be written"
+        exit
+        ;;
+    --version)
+        echo "$name (Pedralume) $version" 2>/dev/null || fail 1 "standard output cannot be written"
+        exit
+        ;;
+    --text) told=yes ;;
+    esac
+done
+if [ -n "$told" ]; then
+    for argument; do
+        shift
+        [ "$argument" = --text ] || set -- "$@" "$argument"
+    done
     exec "$teller" "$@"
 fi
+for argument; do
+    case $argument in
+    --) break ;;
+    -?*) fail 2 "unknown option \"$argument\"; see $name --help" ;;
+    esac
+done
+[ "${1-}" != -- ] || shift
 [ $# -le 1 ] || fail 2 "more than one file: \"$2\"; see $name --help"
-case ${1-} in
--h | --help)
-    usage 2>/dev/null || fail 1 "standard output cannot be written"
-    exit
-    ;;
---version)
-    echo "$name (Pedralume) $version" 2>/dev/null || fail 1 "standard output cannot be written"
-    exit
-    ;;
--) shift ;;
--*) fail 2 "unknown option \"$1\"; see $name --help" ;;
-esac
+[ "${1-}" != - ] || shift
 if [ $# -eq 1 ]; then
     [ -e "$1" ] || fail 2 "$1: no such file"
     [ -r "$1" ] || fail 2 "$1: cannot be read"
     exec <"$1"
 fi
+[ -e /dev/stdin ] || fail 2 "standard input: is closed"
 [ ! -d /dev/stdin ] || fail 2 "${1-standard input}: is a directory"
 ready
 

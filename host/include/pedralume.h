@@ -12,15 +12,16 @@
  *
  * Chip 0 is the left one, chip 1 the right one.
  *
- * All formats are told below; docs/FORMATS.md in the project's folder tells them too, for readers who do
- * not program in C. What a number means in words: pedralume_words.
+ * All formats are told below; docs/FORMATS.md, installed as share/doc/pedralume/FORMATS.md, tells them for
+ * readers who do not program in C. What a number means in words: pedralume_words. This header is for C99
+ * or later, and for C++.
  *
  *
  * WHO OWNS WHAT
  *
  * Every buffer is the caller's, before, during and after a call. The library keeps no pointer,
  * allocates nothing and has no global state: any number of threads may call it at once, each on its
- * own buffers. Every call ends.
+ * own buffers. Every call ends. The most stack that a call was seen to take, on x86-64, is 5 KB (changes).
  *
  * The caller promises, for each buffer:
  *   - the pointer is not null, even where the length is 0;
@@ -221,7 +222,7 @@
  * A trace over 65,536 bytes is listed in blocks of whole records: list a block by changes, then replay it,
  * so that chips and RAM are those before the next, and so on. Changes counts from the block's first record:
  *
- *   static uint64_t list_long(uint8_t *chips, uint8_t *ram, const uint8_t *trace, size_t length)
+ *   static uint64_t list_long(uint8_t *chips, uint8_t *ram, const uint8_t *trace, size_t length, size_t *first)
  *   {
  *       static uint8_t entries[PEDRALUME_ENTRIES_MAX_BYTES];
  *       static uint8_t given[PEDRALUME_TRACE_MAX_BYTES / PEDRALUME_RECORD_BYTES * PEDRALUME_ANSWER_BYTES];
@@ -229,13 +230,14 @@
  *       uint64_t answer = PEDRALUME_DONE;
  *       for (at = 0; at < length; at += block) {
  *           block = length - at < PEDRALUME_TRACE_MAX_BYTES ? length - at : PEDRALUME_TRACE_MAX_BYTES;
+ *           *first = at / PEDRALUME_RECORD_BYTES;
  *           answer = pedralume_changes(chips, PEDRALUME_CHIPS_BYTES, ram, PEDRALUME_RAM_BYTES,
  *                                      trace + at, block, entries, sizeof entries);
  *           if (pedralume_number(answer) != PEDRALUME_DONE)
  *               break;
  *           for (unsigned i = 0; i < pedralume_place(answer); i++) {
  *               const uint8_t *entry = entries + PEDRALUME_ENTRY_BYTES * i;
- *               size_t record = at / PEDRALUME_RECORD_BYTES + pedralume_entry_record(entry);
+ *               size_t record = *first + pedralume_entry_record(entry);
  *               printf("%zu %u %u\n", record, pedralume_entry_left(entry), pedralume_entry_right(entry));
  *           }
  *           pedralume_replay(chips, PEDRALUME_CHIPS_BYTES, ram, PEDRALUME_RAM_BYTES,
@@ -246,9 +248,9 @@
  *
  * With three records, left display on (AF), static drive on (A5) and off (A4), 10,000 times over, 120,000
  * bytes, from fresh chips and RAM all 0, it prints 20,000 lines, the first 1 1952 0, the last 29999 1952 0.
- * A block that is refused is refused whole, with the place counted from the block's first record. Its first
- * 4 * place bytes can be listed alone, though after 3 there may be a record to refuse among them. In both
- * loops the static buffers are for one thread at a time.
+ * A block that is refused is refused whole, with the place counted from its first record, which is *first.
+ * Its first 4 * place bytes can be listed alone, though after 3 there may be a record to refuse among them.
+ * In both loops the static buffers are for one thread at a time.
  *
  *
  * WHAT EACH CALL GIVES BACK: number + 256 * place + 2^24 * compared + 2^40 * differing; for the feed's
@@ -257,8 +259,9 @@
  * Take it apart with pedralume_number, _place, _compared and _differing below; for a feed with
  * pedralume_number and pedralume_feed_place, and not with the other three. A feed's place has 32 bits,
  * and its counts so far are in its record, whatever the number. For frame, repaint and changes compared
- * and differing are 0. The lowest number whose cause holds is given, but 13 comes right after 1 and 14
- * right after 8; at equal number the left chip comes before the right one, and both before place 3.
+ * and differing are 0. Records are taken in order, and the first that is refused decides. Of the causes that
+ * hold before any record, or else for that record, the lowest number is given, but 13 comes right after 1
+ * and 14 right after 8; at equal number the left chip comes before the right one, and both before place 3.
  *
  *   no.  call  cause                                               place
  *    0   all   done                                                replay: records replayed;
@@ -297,8 +300,9 @@
  *   12   P     read-modify-write on                                chip
  *   15   L     entries buffer under 8 bytes for each entry         entries due
  *   (R replay, F frame, P repaint, L changes; of a feed O open, T part, C close. Records count from 0,
- *   for a feed from its opening. T and C of a stopped feed repeat its number and place before all but
- *   the 48.)
+ *   for a feed from its opening. T and C of a stopped feed repeat its number and place, before every
+ *   other test but that of the 48 bytes. A kept count over 3 is taken as it stands for 1 and 13, which
+ *   come before its own 2.)
  *
  * 1, 2, 3, 9 to 13 and 15: every buffer is as it came. But open's 2 and close's 3 stop the feed: open
  * writes the chips as given, stopped, number and place, the rest 0; close changes these three only.
@@ -406,20 +410,30 @@ extern "C" {
 
 /*
  * The version. The first number rises with a change of what a call gives back or of a format, the second
- * with what is added beside that, the third with any other change. It is said here and nowhere else.
+ * with what is added beside that, the third with any other change. It is said here and nowhere else. The
+ * number is for #if: 1.2.3 is 10203.
  */
 #define PEDRALUME_VERSION_MAJOR 1
 #define PEDRALUME_VERSION_MINOR 0
 #define PEDRALUME_VERSION_PATCH 0
 
-/* The three as one text, "1.0.0"; the two before it only help to make it. */
+#define PEDRALUME_VERSION_NUMBER \
+    (10000 * PEDRALUME_VERSION_MAJOR + 100 * PEDRALUME_VERSION_MINOR + PEDRALUME_VERSION_PATCH)
+
+/* The three as one text with dots between them; the two before it only help to make it. */
 #define PEDRALUME_TEXT_OF(tokens) #tokens
 #define PEDRALUME_VERSION_OF(major, minor, patch) \
     PEDRALUME_TEXT_OF(major) "." PEDRALUME_TEXT_OF(minor) "." PEDRALUME_TEXT_OF(patch)
 #define PEDRALUME_VERSION \
     PEDRALUME_VERSION_OF(PEDRALUME_VERSION_MAJOR, PEDRALUME_VERSION_MINOR, PEDRALUME_VERSION_PATCH)
 
-/* Sizes in bytes. */
+/* Pixels: the panel, the half of one chip, a picture for a repaint. */
+#define PEDRALUME_WIDTH 122u
+#define PEDRALUME_HEIGHT 32u
+#define PEDRALUME_HALF_WIDTH 61u
+#define PEDRALUME_PICTURE_HEIGHT 16u
+
+/* Sizes in bytes; the repaint's also in records. */
 #define PEDRALUME_CHIP_BYTES 12u
 #define PEDRALUME_CHIPS_BYTES 24u
 #define PEDRALUME_RAM_BYTES 640u
@@ -522,7 +536,10 @@ static inline unsigned pedralume_place(uint64_t answer) { return (unsigned)(answ
 static inline unsigned pedralume_compared(uint64_t answer) { return (unsigned)(answer >> 24 & 0xFFFFu); }
 static inline unsigned pedralume_differing(uint64_t answer) { return (unsigned)(answer >> 40 & 0xFFFFu); }
 
-/* What a number means; the table above says more. Never null, for any number, and never freed. */
+/*
+ * What a number means; the table above says more. Never null, for any number, and never freed. Like the
+ * other functions here that are no calls it is in the header alone, and not in the library.
+ */
 static inline const char *pedralume_words(unsigned number)
 {
     switch (number) {
@@ -579,6 +596,12 @@ static inline uint32_t pedralume_entry_record(const uint8_t *entry)
 
 static inline unsigned pedralume_entry_left(const uint8_t *entry) { return entry[4] | (unsigned)entry[5] << 8; }
 static inline unsigned pedralume_entry_right(const uint8_t *entry) { return entry[6] | (unsigned)entry[7] << 8; }
+
+/* The pixel at column x, row y of a frame, or of a picture: 1 is lit. */
+static inline unsigned pedralume_pixel(const uint8_t *frame, unsigned x, unsigned y)
+{
+    return (unsigned)frame[x + PEDRALUME_WIDTH * (y / 8)] >> (y % 8) & 1u;
+}
 
 /*
  * Replays the trace. Rewrites chips and RAM to what they are after the last accepted record, and

@@ -21,7 +21,7 @@ bool take_frame(const struct run *run, uint8_t frame[PEDRALUME_FRAME_BYTES])
 
 static bool lit(const uint8_t *frame, unsigned x, unsigned y)
 {
-    return (frame[x + WIDTH * (y / 8)] >> (y % 8) & 1) != 0;
+    return pedralume_pixel(frame, x, y) != 0;
 }
 
 /* ---- the form ---- */

@@ -4,7 +4,7 @@
 #include <string.h>
 
 enum {
-    PICTURE_HEIGHT = 16,
+    PICTURE_HEIGHT = PEDRALUME_PICTURE_HEIGHT,
     /* More than a picture takes, with room for comments. */
     PBM_KEPT = 65536
 };

@@ -8,8 +8,8 @@
 #include "common.h"
 
 enum {
-    WIDTH = 122,
-    HEIGHT = 32
+    WIDTH = PEDRALUME_WIDTH,
+    HEIGHT = PEDRALUME_HEIGHT
 };
 
 /* Records that were all accepted, to be gone through again from the chips and RAM before the first of them. */

@@ -90,12 +90,13 @@ static void run_list_long(void)
     memcpy(chips, fresh_chips, sizeof chips);
     for (size_t i = 0; i < TIMES_LISTED; i++)
         memcpy(many + i * sizeof blink, blink, sizeof blink);
-    uint64_t answer = list_long(chips, ram, many, sizeof many);
+    size_t first;
+    uint64_t answer = list_long(chips, ram, many, sizeof many, &first);
     printf("number %u\n", pedralume_number(answer));
     many[4 * 16390 + 1] = 2;
     memcpy(chips, fresh_chips, sizeof chips);
-    answer = list_long(chips, ram, many, sizeof many);
-    printf("spoilt: number %u at %u\n", pedralume_number(answer), pedralume_place(answer));
+    answer = list_long(chips, ram, many, sizeof many, &first);
+    printf("spoilt: number %u at %lu\n", pedralume_number(answer), (unsigned long)(first + pedralume_place(answer)));
 }
 
 /* Both displays and both static drives on: every pixel is lit. */

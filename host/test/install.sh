@@ -9,7 +9,7 @@ trap 'umount "$work/disk" 2>/dev/null; rm -rf "$work"' EXIT
 trap 'exit 1' HUP INT TERM
 programs=$*
 mkdir "$work/a copy" "$work/a copy/target" "$work/client" || exit 1
-(cd "$project" && cp -Rp host examples "$work/a copy" && cp -Rp target/bin target/staticlib "$work/a copy/target") || exit 1
+(cd "$project" && cp -Rp host examples docs "$work/a copy" && cp -Rp target/bin target/staticlib "$work/a copy/target") || exit 1
 cd "$work/a copy" || exit 1
 chmod -R u+w host
 unset MAKEFLAGS MAKEOVERRIDES MAKELEVEL PREFIX BINDIR LIBDIR INCLUDEDIR MANDIR DESTDIR
@@ -48,7 +48,11 @@ major=${version%%.*}
 {
     printf '%s\n' "./include/pedralume.h 644" "./lib/libpedralume.a 644" "./lib/libpedralume.so -> libpedralume.so.$major" \
         "./lib/libpedralume.so.$major -> libpedralume.so.$version" "./lib/libpedralume.so.$version 755" "./lib/pedralume/replay 755" \
-        "./lib/pkgconfig/pedralume.pc 644" "./bin/pedralume-replay 755" "./share/man/man1/pedralume-replay.1 644" "./share/man/man3/pedralume.3 644"
+        "./lib/pkgconfig/pedralume.pc 644" "./bin/pedralume-replay 755" "./share/man/man1/pedralume-replay.1 644" "./share/man/man3/pedralume.3 644" \
+        "./share/doc/pedralume/FORMATS.md 644"
+    for call in replay frame repaint feed_open feed_part feed_close changes words; do
+        echo "./share/man/man3/pedralume_$call.3 -> pedralume.3"
+    done
     for program in $programs; do printf '%s\n' "./bin/pedralume-$program 755" "./share/man/man1/pedralume-$program.1 644"; done
 } | sort >"$work/expected"
 make_ install PREFIX="$prefix"; good "install"
@@ -67,10 +71,10 @@ names "$work/a stage/opt/pedra" >"$work/staged"
 check "DESTDIR: other files" same "$(cat "$work/staged")" "$(names "$prefix")"
 check "DESTDIR: its path is in a file" same "$(grep -rlF "$work" "$work/a stage/opt/pedra")" ""
 check "DESTDIR: pedralume-replay" grep -q "program=/opt/pedra/lib/pedralume/replay" "$work/a stage/opt/pedra/bin/pedralume-replay"
-make_ install PREFIX="$work/own" LIBDIR="$work/own/lib64" INCLUDEDIR="$work/headers" BINDIR="$work/own/programs" MANDIR="$work/own/man"
+make_ install PREFIX="$work/own" LIBDIR="$work/own/lib64" INCLUDEDIR="$work/headers" BINDIR="$work/own/programs" MANDIR="$work/own/man" DOCDIR="$work/own/doc"
 good "own places"
-check "own places: what is where" same "$(cd "$work" && find own headers -name '*replay' -o -name '*.[3ah]' | sort | paste -sd ' ')" \
-    "headers/pedralume.h own/lib64/libpedralume.a own/lib64/pedralume/replay own/man/man3/pedralume.3 own/programs/pedralume-replay"
+check "own places: what is where" same "$(cd "$work" && find own headers -name '*replay' -o -name '*.[ah]' -o -name 'pedralume.3' -o -name '*.md' | sort | paste -sd ' ')" \
+    "headers/pedralume.h own/doc/FORMATS.md own/lib64/libpedralume.a own/lib64/pedralume/replay own/man/man3/pedralume.3 own/programs/pedralume-replay"
 check "own places: pedralume.pc" same "$(head -n 3 "$work/own/lib64/pkgconfig/pedralume.pc" | paste -sd ' ')" \
     "prefix=$work/own libdir=\${prefix}/lib64 includedir=$work/headers"
 "$work/own/programs/pedralume-replay" examples/listing.trace >/dev/null; check "own places: pedralume-replay: status $?" same $? 0
@@ -128,7 +132,7 @@ lines() { printf '%s\n' "$@"; }
 recorded=$(lines "0 0 00" "1 0 00" "2 0 00" "3 2 00" "4 1 A5")
 changed=$(lines "1 4 0" "4 0 8" "5 1948 0")
 blinked() { awk -v end="$1" 'BEGIN { for (i = 0; i < end; i++) if (i % 3) print i, 1952, 0 }'; } # RECORDS
-listed() { blinked 30000; lines "number 0"; blinked 16384; lines "spoilt: number 5 at 6"; }
+listed() { blinked 30000; lines "number 0"; blinked 16384; lines "spoilt: number 5 at 16390"; }
 in_a_row() { printf '%s\n' "$1" | paste -sd '|' | sed 's/|/, then /g'; } # LINES: as the header has them
 says "It prints 0 of 1 compared reads differ."
 says "it prints number 6 at 4: RD and WR equal."
@@ -252,6 +256,10 @@ if ! missing man "man pages found by it and rendered"; then
         run man -M "$prefix/share/man" -w "${page%/*}" "${page#*/}"; good "man -w $page"
         check "man -w $page: finds '$(cat "$work/out")'" same "$(cat "$work/out")" "$prefix/share/man/man${page%/*}/${page#*/}.${page%/*}"
     done
+    for call in $calls words; do
+        run man -M "$prefix/share/man" -w 3 "pedralume_$call"; good "man -w 3 pedralume_$call"
+        check "man -w 3 pedralume_$call: finds '$(cat "$work/out")'" same "$(cat "$work/out")" "$prefix/share/man/man3/pedralume.3"
+    done
     for page in host/man/*.[13]; do
         run env MANROFFSEQ= MANWIDTH=80 LC_ALL=C.UTF-8 man --warnings -E UTF-8 -l -Tutf8 -Z "$page"; good "$page rendered"
         check "$page: rendered to nothing" [ -s "$work/out" ]
@@ -303,6 +311,40 @@ fi
 touch -r host/build/show "host/$archive"
 make_ install PREFIX="$prefix"; good "all there again"
 
+# ---- what is built is what the sources say, and an earlier version does not stay ----
+
+mkdir crates
+touch -d tomorrow crates/source
+make_ install PREFIX="$work/late"; bad "an archive older than the sources" \
+    "install: ../target/staticlib/libpedralume.a: is older than the sources; run ./show --version, which builds it, in the project's folder"
+touch -d '2 days' target/staticlib/libpedralume.a
+make_ install PREFIX="$work/late"; bad "a program older than the sources" \
+    "install: ../target/bin/replay: is older than the sources; run ./replay examples/listing.trace, which builds it, in the project's folder"
+check "older than the sources: files are written" [ ! -e "$work/late" ]
+rm -r crates
+touch target/staticlib/libpedralume.a
+mkdir -p "$work/late/lib"
+: >"$work/late/lib/libpedralume.so.$major.0.99"
+: >"$work/late/lib/libpedralume.so.0.1.2"
+make_ install PREFIX="$work/late"; good "over an earlier version"
+check "over an earlier version: it stays" same "$(cd "$work/late/lib" && echo libpedralume.so.*)" \
+    "libpedralume.so.0.1.2 libpedralume.so.$major libpedralume.so.$version"
+: >"$work/late/lib/libpedralume.so.$major.0.99"
+make_ uninstall PREFIX="$work/late"; good "uninstall with an earlier version"
+check "uninstall with an earlier version" same "$(names "$work/late")" "./lib/libpedralume.so.0.1.2"
+# one that another archive's programs were built from is built anew, whatever the times
+touch host/build/libpedralume.so host/build/show
+printf 'void pedralume_extra(void) {}\nvoid extra(void) {}\n' >"$work/extra.c"
+cp target/staticlib/libpedralume.a "$work/archive"
+if gcc -c -o "$work/extra.o" "$work/extra.c" && ar r target/staticlib/libpedralume.a "$work/extra.o" 2>/dev/null; then
+    touch -d yesterday target/staticlib/libpedralume.a
+    make_ install PREFIX="$work/late"; good "another archive"
+    check "another archive: the shared library is not of it" grep -q pedralume_extra "$work/late/lib/libpedralume.so"
+    check "another archive: what is no call is shown" same "$(nm -D --defined-only "$work/late/lib/libpedralume.so" | grep -c ' extra$')" 0
+fi
+cp "$work/archive" target/staticlib/libpedralume.a
+make_ install PREFIX="$prefix"; good "the first archive again"
+
 # ---- places that cannot be written ----
 
 : >"$work/file"
@@ -310,6 +352,9 @@ make_ install PREFIX="$work/file/x"; bad "under a file" "install: $work/file/x/i
 make_ install PREFIX=/dev/full/x; bad "under a device" "install: /dev/full/x/include: cannot be made"
 mkdir -p "$work/taken/lib/libpedralume.a"
 make_ install PREFIX="$work/taken"; bad "a folder in a file's place" "install: $work/taken/lib/libpedralume.a: is a directory"
+mkdir -p "$work/linked/lib/libpedralume.so.$major"
+make_ install PREFIX="$work/linked"; bad "a folder in a link's place" "install: $work/linked/lib/libpedralume.so.$major: is a directory"
+check "a folder in a link's place: files are written" same "$(names "$work/linked")" ""
 if [ "$(id -u)" -ne 0 ]; then
     mkdir "$work/shut"; chmod 500 "$work/shut"
     make_ install PREFIX="$work/shut"; bad "a folder that is shut" "install: $work/shut/include: cannot be made"
@@ -358,7 +403,7 @@ check "uninstall: takes a stranger's file" [ -e "$prefix/lib/pedralume/other" ]
 make_ uninstall PREFIX=/opt/pedra DESTDIR="$work/a stage"; good "uninstall, DESTDIR"
 check "uninstall, DESTDIR: leaves something" same "$(names "$work/a stage")" ""
 mv host/build "$work/build"
-make_ uninstall PREFIX="$work/own" LIBDIR="$work/own/lib64" INCLUDEDIR="$work/headers" BINDIR="$work/own/programs" MANDIR="$work/own/man"
+make_ uninstall PREFIX="$work/own" LIBDIR="$work/own/lib64" INCLUDEDIR="$work/headers" BINDIR="$work/own/programs" MANDIR="$work/own/man" DOCDIR="$work/own/doc"
 good "uninstall, own places, nothing built"
 check "uninstall, own places: leaves something" same "$(names "$work/own"; names "$work/headers")" ""
 

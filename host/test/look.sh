@@ -66,6 +66,16 @@ for n in 1 2 5 6 10 11 12 13; do                # pixels alone, halves that are 
     done
 done
 
+for seed in 1 2 3; do                           # pixels without any order
+    { records "2 0 AF" "2 1 AF"; "$tests/traces.py" good $seed 4000; records "2 0 AF" "2 1 AF" "2 0 A4" "2 1 A4" "2 0 A9" "2 1 A9"; } >"$t"
+    "$show" "$t" --pbm "$pbm" >/dev/null
+    for form in blocks braille ascii; do
+        "$tests/forms.py" $form "$pbm" >"$work/wanted"
+        run "$t" --form $form; done_with "$form, random $seed" 0 ""; printed "$form, random $seed" "$work/wanted"
+    done
+done
+changes >"$t"
+
 # ---- arguments ----
 
 same_as() { # LABEL ARGUMENTS...: they print what stands in $work/wanted

@@ -252,6 +252,7 @@ check "back to a terminal" same "$(tr -d '\r' <"$work/out")" \
 for option in --help -h; do
     run $option; done_with "$option" 0 ""
     check "$option: usage" same "$(head -n 1 "$work/out")" "Usage: text [TRACE] [--start FILE]"
+    check "$option: wider than a terminal" same "$(awk 'length($0) > 79' "$work/out")" ""
     for listed in --start --back "-h, --help" --version; do
         check "$option: $listed" same "$(grep -c -e "^  $listed " "$work/out")" 1
     done

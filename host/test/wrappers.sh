@@ -53,6 +53,7 @@ replayed() { ended "$1" 0 ""; printed "$1" crates/replay/stdout; called "$1" "ch
 run ./replay examples/listing.trace; replayed "a file"
 run ./replay <examples/listing.trace; replayed "standard input"
 run ./replay - <examples/listing.trace; replayed "-"
+run ./replay -- examples/listing.trace; replayed "--"
 ln -s "$PWD/replay" "$work/folder/replay"
 cp examples/listing.trace "$work/folder/t"
 run sh -c 'cd ../folder && ./replay t'; replayed "a link, from another folder"
@@ -64,6 +65,7 @@ done
 run ./replay --version; ended "--version" 0 ""; called "--version" ""
 check "--version: '$(cat "$work/out")'" same "$(cat "$work/out")" "$(host/build/show --version | sed 's/show/replay/')"
 run ./replay --text examples/name.trace; ended "--text" 0 ""; printed "--text" "$work/told"; called "--text" ""
+run ./replay examples/name.trace --text; ended "--text last" 0 ""; printed "--text last" "$work/told"; called "--text last" ""
 run ./replay --text <examples/name.trace; ended "--text, standard input" 0 ""; printed "--text, standard input" "$work/told"
 run ./replay --text a b; ended "--text, two files" 2 'text: more than one file: "b"; see text --help'
 for option in --help --version; do
@@ -79,7 +81,13 @@ wrong() { # LABEL WORDS ARGUMENTS...
     run ./replay "$@"; ended "$use" 2 "replay: $words"; printed "$use" /dev/null; called "$use" ""
 }
 wrong "two files" 'more than one file: "b"; see replay --help' examples/listing.trace b
-for option in -x --foo --; do wrong "$option" "unknown option \"$option\"; see replay --help" $option; done
+for option in -x --foo ---; do
+    wrong "$option" "unknown option \"$option\"; see replay --help" $option
+    wrong "$option after a file" "unknown option \"$option\"; see replay --help" examples/listing.trace $option
+done
+wrong "two files, the first -" 'more than one file: "b"; see replay --help' - b
+wrong "two files after --" 'more than one file: "-x"; see replay --help' -- examples/listing.trace -x
+wrong "a missing file after --" "--text: no such file" -- --text
 wrong "missing file" "nowhere: no such file" nowhere
 wrong "empty name" ": no such file" ""
 wrong "a directory" "examples: is a directory" examples
@@ -117,7 +125,7 @@ status=$?; ended "closed output" 1 "replay: standard output cannot be written"
 status=$?; ended "a full disk" 1 "replay: standard output cannot be written"
 { sleep 0.3; ./replay "$work/t" 2>"$work/err"; echo $? >"$work/status"; } | true
 status=$(cat "$work/status"); ended "a closed pipe" 1 "replay: standard output cannot be written"
-run ./replay <&-; ended "closed input" 1 "replay: no whole end line: the trace could not be read"; printed "closed input" /dev/null
+run ./replay <&-; ended "closed input" 2 "replay: standard input: is closed"; printed "closed input" /dev/null
 for text in '' 'end 0 9 2 1' '0 0 00\nend 0 9 2\n' '0 0 00\n'; do
     printf '#!/bin/sh\nprintf "%s"\n' "$text" >target/bin/replay
     run ./replay examples/listing.trace; ended "a program that prints '$text'" 1 "replay: no whole end line: the trace could not be read"
