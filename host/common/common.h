@@ -54,8 +54,11 @@ struct input {
     const char *name;
 };
 
-/* "-" is standard input. What is opened here is never written over. */
+/* "-" is standard input. What is opened here is never written over, and refused where standard output goes to it. */
 bool open_input(struct input *input, const char *path);
+
+/* From now on an interrupt (Ctrl-C) ends the input that is being read; a second one ends the program. */
+void end_input_on_interrupt(void);
 
 /* Takes what is there, as soon as there is something; gives 0 at the end of the input and -1 where it cannot be read. */
 ssize_t read_some(struct input *input, uint8_t *bytes, size_t room);
@@ -130,5 +133,8 @@ void cycle_words(const uint8_t record[RECORD], char *words, size_t room);
 
 /* Only answers: whether these are the words of a command, in lower case and a space between two; then gives its byte. */
 bool command_of(const char *words, uint8_t *byte);
+
+/* Only answers: whether these begin with the words of a command that takes a number; then gives the highest. */
+bool takes_number(const char *words, unsigned *highest);
 
 #endif

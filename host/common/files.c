@@ -4,6 +4,7 @@
 
 #include <errno.h>
 #include <fcntl.h>
+#include <signal.h>
 #include <stdlib.h>
 #include <string.h>
 #include <sys/stat.h>
@@ -25,6 +26,14 @@ bool file_failed(const char *path, const char *what)
     const char *name = strcmp(path, "-") == 0 ? "standard output" : path;
     fprintf(stderr, "%s: %s: %s\n", name, what, errno != 0 ? strerror(errno) : "reason unknown");
     return false;
+}
+
+/* Appending to what it reads, a program would never end. Where standard output is closed, an input may have its descriptor. */
+static bool is_standard_output(int descriptor)
+{
+    struct stat file, output;
+    return descriptor != STDOUT_FILENO && fstat(descriptor, &file) == 0 && fstat(STDOUT_FILENO, &output) == 0 && S_ISREG(file.st_mode)
+        && file.st_dev == output.st_dev && file.st_ino == output.st_ino;
 }
 
 /* Only regular files: a terminal or /dev/null may be both read and written. */
@@ -59,16 +68,36 @@ bool open_input(struct input *input, const char *path)
     input->descriptor = standard ? STDIN_FILENO : open(path, O_RDONLY);
     if (input->descriptor < 0)
         return file_failed(path, "cannot be opened");
+    if (is_standard_output(input->descriptor)) {
+        fprintf(stderr, "%s: is standard output too\n", input->name);
+        return false;
+    }
     remember(input->descriptor);
     return true;
 }
 
+static volatile sig_atomic_t interrupted;
+
+static void note_interrupt(int signal)
+{
+    (void)signal;
+    interrupted = 1;
+}
+
+/* Without a restart: a read that waits comes back. */
+void end_input_on_interrupt(void)
+{
+    struct sigaction action = { .sa_handler = note_interrupt, .sa_flags = (int)SA_RESETHAND };
+    sigaction(SIGINT, &action, NULL);
+}
+
 ssize_t read_some(struct input *input, uint8_t *bytes, size_t room)
 {
-    ssize_t length;
-    do
-        length = read(input->descriptor, bytes, room);
-    while (length < 0 && errno == EINTR);
+    ssize_t length = 0;
+    while (!interrupted && (length = read(input->descriptor, bytes, room)) < 0 && errno == EINTR)
+        continue;
+    if (interrupted)
+        return 0;
     if (length < 0)
         file_failed(input->name, "cannot be read");
     return length;

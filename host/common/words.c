@@ -90,6 +90,18 @@ static bool number_of(const char *words, const struct command *command, uint8_t 
     return *end == '\0' && number <= (unsigned long)(command->last - command->first);
 }
 
+bool takes_number(const char *words, unsigned *highest)
+{
+    for (size_t i = 0; i < COMMANDS; i++) {
+        const char *rest = after(words, commands[i].words);
+        if (rest != NULL && (*rest == ' ' || *rest == '\0') && commands[i].last > commands[i].first) {
+            *highest = (unsigned)(commands[i].last - commands[i].first);
+            return true;
+        }
+    }
+    return false;
+}
+
 bool command_of(const char *words, uint8_t *byte)
 {
     for (size_t i = 0; i < COMMANDS; i++) {

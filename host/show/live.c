@@ -59,14 +59,16 @@ static bool take_input(struct live *live, struct input *input)
     return length >= 0;
 }
 
-/* What is saved is what the accepted records have left, also where one is refused. */
+/* What is saved is what the accepted records have left, also where one is refused or an interrupt ends it. */
 bool show_live(const char *start, const char *save)
 {
     struct live live;
     struct input input;
     signal(SIGPIPE, SIG_IGN);   /* a closed output is then a write that fails, and is said */
+    end_input_on_interrupt();
     if (!open_input(&input, "-") || !begin_run(&live.run, input.name, start)
         || !take_frame(&live.run, live.frame) || !draw(&live, true) || !take_input(&live, &input))
         return false;
-    return (save == NULL || save_run(&live.run, save)) && tell_end(&live.run, "");
+    bool saved = save == NULL || save_run(&live.run, save);
+    return tell_end(&live.run, "") && saved;
 }

@@ -35,31 +35,40 @@ static char read_key(void)
     return length == 1 ? key : 'q';
 }
 
-/* An arrow key or its like comes as escape, [ and a letter. */
+static int wish_of(char key)
+{
+    switch (key) {
+    case ' ': case '\n': case '\r': case 'n': case 'j': return NEXT;
+    case 'b': case 'p': case 'k': return BACK;
+    case 'g': return FIRST;
+    case 'G': return LAST;
+    case 'q': case 'Q': case '\003': case '\004': return QUIT;
+    default: return NOTHING;
+    }
+}
+
+/* After escape: an arrow key or its like goes on with [ and a letter, or [, a digit and ~; else escape was typed alone. */
 static int read_arrow(void)
 {
-    if (read_key() != '[')
-        return NOTHING;
-    switch (read_key()) {
-    case 'A': case 'D': return BACK;
-    case 'B': case 'C': return NEXT;
-    case 'H': return FIRST;
-    case 'F': return LAST;
+    char key = read_key();
+    if (key != '[')
+        return wish_of(key);
+    key = read_key();
+    if (key >= '0' && key <= '9')
+        read_key();
+    switch (key) {
+    case 'A': case 'D': case '5': return BACK;
+    case 'B': case 'C': case '6': return NEXT;
+    case 'H': case '1': case '7': return FIRST;
+    case 'F': case '4': case '8': return LAST;
     default: return NOTHING;
     }
 }
 
 static int read_wish(void)
 {
-    switch (read_key()) {
-    case ' ': case '\n': case '\r': case 'n': case 'j': return NEXT;
-    case 'b': case 'p': case 'k': return BACK;
-    case 'g': return FIRST;
-    case 'G': return LAST;
-    case 'q': case 'Q': case '\003': case '\004': return QUIT;
-    case '\033': return read_arrow();
-    default: return NOTHING;
-    }
+    char key = read_key();
+    return key == '\033' ? read_arrow() : wish_of(key);
 }
 
 /* ---- pages ---- */

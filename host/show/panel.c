@@ -35,13 +35,14 @@ enum {
 
 static int form = BLOCKS;
 
-/* 0 where standard output is no terminal; what is usual where a terminal does not know its width. */
-static unsigned terminal_width(void)
+/* Whether standard output is a terminal that has not the columns for the panel with its edges, or not the rows for that and
+ * two lines below; one that does not know its size is taken for one of 80 columns. */
+static void look_at_terminal(bool *narrow, bool *low)
 {
     struct winsize size;
-    if (!isatty(STDOUT_FILENO))
-        return 0;
-    return ioctl(STDOUT_FILENO, TIOCGWINSZ, &size) == 0 && size.ws_col > 0 ? size.ws_col : 80;
+    bool terminal = isatty(STDOUT_FILENO), known = terminal && ioctl(STDOUT_FILENO, TIOCGWINSZ, &size) == 0 && size.ws_col > 0;
+    *narrow = terminal && (!known || size.ws_col < WIDTH + 2);
+    *low = known && size.ws_row > 0 && size.ws_row < HEIGHT / 2 + 4;
 }
 
 /* By its name: a locale may be set that is not installed, on a terminal that shows UTF-8 all the same. */
@@ -60,10 +61,10 @@ static bool locale_is_utf8(void)
 /* The frame with its edges is 124 characters wide, in braille 63. */
 bool choose_form(const char *name)
 {
-    unsigned width = terminal_width();
-    bool narrow = width > 0 && width < WIDTH + 2;
+    bool narrow, low;
+    look_at_terminal(&narrow, &low);
     if (name == NULL)
-        name = !locale_is_utf8() ? "ascii" : narrow ? "braille" : "blocks";
+        name = !locale_is_utf8() ? "ascii" : narrow || low ? "braille" : "blocks";
     if (strcmp(name, "blocks") == 0)
         form = BLOCKS;
     else if (strcmp(name, "braille") == 0)

@@ -98,7 +98,8 @@ static bool take_header(struct reader *reader, const char *path, int *format, un
         return damaged(path, "its header gives no width and height");
     if (width == WIDTH && (*height == PICTURE_HEIGHT || *height == HEIGHT))
         return true;
-    fprintf(stderr, "%s: is %u by %u, a repaint takes %d by %d\n", path, width, *height, WIDTH, PICTURE_HEIGHT);
+    fprintf(stderr, "%s: is %u by %u, a repaint takes %d by %d, or by %d with a blank lower half\n", path, width, *height,
+            WIDTH, PICTURE_HEIGHT, HEIGHT);
     return false;
 }
 

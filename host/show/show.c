@@ -32,8 +32,9 @@ const char usage[] =
     "  --live             instead of a file, take records from standard input as\n"
     "                     they come, cut anywhere: shows the panel at first and\n"
     "                     after each record that changed it, on a terminal in place\n"
-    "                     of the last; ends with the input or at a refused record,\n"
-    "                     and counts the records taken and the reads compared\n"
+    "                     of the last; ends with the input, at Ctrl-C or at a\n"
+    "                     refused record, and counts the records taken and the\n"
+    "                     reads compared\n"
     "\n"
     "What is shown:\n"
     "  --changes          each record that changed what the panel shows, with the\n"
@@ -50,8 +51,8 @@ const char usage[] =
     "                     if not given\n"
     "  --form FORM        blocks (124 columns), braille (63 columns) or ascii; if\n"
     "                     not given, ascii unless the locale is UTF-8, braille on a\n"
-    "                     terminal under 124 columns, else blocks. On a terminal\n"
-    "                     under 124 columns ascii has the right half below\n"
+    "                     terminal under 124 columns or 20 rows, else blocks. On a\n"
+    "                     terminal under 124 columns ascii has the right half below\n"
     "\n"
     "What is written; - is standard output, and nothing else is then printed:\n"
     "  --pbm FILE         the panel, as a binary PBM (P4) of 122 by 32, 1 = lit;\n"
@@ -62,7 +63,9 @@ const char usage[] =
     "                     name-000000.pbm and so on, the number as --at takes it\n"
     "  --save FILE        the chips and RAM as they are at the end\n"
     "  --records FILE     with --repaint: the records of it that are sent, a trace\n"
-    "A file that is read is not written over.\n"
+    "A file that is read is not written over. Nothing is shown or written of a trace\n"
+    "that is refused: --at N shows what was before record N, and the program text\n"
+    "tells each record, and can go on past a refused one.\n"
     "\n"
     "  -h, --help         print this\n"
     "  --version          print the version\n"
@@ -127,6 +130,8 @@ static bool check_live(const struct options *options)
     for (size_t i = 0; i < sizeof others / sizeof others[0]; i++)
         if (*others[i].value != NULL)
             return wrong_argument("--live goes without", others[i].name);
+    if (is_dash(options->start))
+        return wrong_argument("--live reads standard input, and so cannot --start from", "-");
     return !is_dash(options->save) || wrong_argument("--live goes without --save to", "-");
 }
 
@@ -148,7 +153,12 @@ static bool check_options(const struct options *options)
         return wrong_argument("--records goes with", "--repaint");
     if (is_dash(options->trace) + is_dash(options->start) + is_dash(options->repaint) > 1)
         return wrong_argument("only one of the files that are read can be", "-");
-    return to_standard_output(options) <= 1 || wrong_argument("only one of --pbm, --save and --records can be", "-");
+    if (to_standard_output(options) > 1)
+        return wrong_argument("only one of --pbm, --save and --records can be", "-");
+    if (options->every != NULL && (is_dash(options->save) || is_dash(options->records)))
+        return wrong_argument("--every goes without --save or --records to", "-");
+    return to_standard_output(options) == 0 || !isatty(STDOUT_FILENO)
+        || wrong_argument("bytes are no text: send them to a file or a pipe, not to", "a terminal");
 }
 
 static bool take_options(int argc, char **argv, struct options *options)

@@ -50,6 +50,9 @@ on_terminal 124 "" "$example"; drawn "ascii on 124 columns" ascii
 on_terminal 80 "" "$example"; drawn "ascii on 80 columns" halves
 LC_ALL=C.UTF-8
 on_terminal 80 "" "$example" --form blocks; drawn "blocks on 80 columns" blocks
+for rows in "20 blocks" "19 braille" "5 braille"; do
+    on_terminal "130x${rows% *}" "" "$example"; drawn "a terminal of ${rows% *} rows" "${rows#* }"
+done
 on_terminal 200 "" "$example" --form braille; drawn "braille on 200 columns" braille
 for form in "" x Blocks halves; do
     refused "--form '$form'" 2 "show: --form takes blocks, braille or ascii, not \"$form\"; see show --help" "$example" --form "$form"
@@ -113,6 +116,18 @@ for option in "--every" "--list" "--delay 1"; do
     # shellcheck disable=SC2086
     refused "live, $option" 2 "show: --live goes without \"${option% *}\"; see show --help" --live $option
 done
+refused "live, from a state on standard input" 2 'show: --live reads standard input, and so cannot --start from "-"; see show --help' --live --start -
+for arguments in "--save -" "--repaint $new_name --records -" "--pbm x.pbm --save -"; do
+    # shellcheck disable=SC2086
+    refused "every, $arguments" 2 'show: --every goes without --save or --records to "-"; see show --help' "$t" --every $arguments
+done
+for arguments in "--pbm -" "--save -" "--repaint $new_name --records -" "--changes --pbm -"; do
+    # shellcheck disable=SC2086
+    on_terminal 130 "" "$t" $arguments
+    check "bytes to a terminal, $arguments: status $status" same "$status" 2
+    check "bytes to a terminal, $arguments" same "$(cat "$work/out")" \
+        'show: bytes are no text: send them to a file or a pipe, not to "a terminal"; see show --help'
+done
 refused "live, saved to standard output" 2 'show: --live goes without --save to "-"; see show --help' --live --save -
 for arguments in "- --start -" "- --repaint -" "$t --start - --repaint -"; do
     # shellcheck disable=SC2086
@@ -134,7 +149,7 @@ for arguments in "" "--at 3" "--changes" "--changes --at 1"; do
     # shellcheck disable=SC2086
     run "$t" $arguments --pbm -; done_with "--pbm - $arguments" 0 ""; printed "--pbm - $arguments" "$pbm"
 done
-for arguments in "--pbm -" "--changes --pbm -" "--every --pbm -" "--save -" "--every"; do
+for arguments in "--pbm -" "--changes --pbm -" "--every --pbm -" "--save -" "--every" "--changes"; do
     # shellcheck disable=SC2086
     "$show" "$t" $arguments >/dev/full 2>"$work/err"; status=$?
     done_with "$arguments on a full disk" 1 "standard output: cannot be written: No space left on device"
@@ -167,6 +182,14 @@ cp "$new_name" "$work/p-000003.pbm"
 kept "the picture, every" "$work/p-000003.pbm" "$example" --repaint "$work/p-000003.pbm" --every --pbm "$work/p.pbm"
 rm -f "$work"/p-*.pbm
 run /dev/null --pbm /dev/null; done_with "/dev/null twice" 0 ""
+cp "$t" "$work/both"
+for arguments in "$work/both" "- --changes" "$work/both --every"; do
+    # shellcheck disable=SC2086,SC2094
+    "$show" $arguments <"$work/both" >>"$work/both" 2>"$work/err"; status=$?
+    case $arguments in -*) name="standard input" ;; *) name=$work/both ;; esac
+    done_with "appended to what is read, $arguments" 1 "$name: is standard output too"
+    check "appended to what is read, $arguments" cmp -s "$t" "$work/both"
+done
 
 # ---- pictures of 32 rows ----
 
@@ -221,6 +244,23 @@ while [ $n -le $count ]; do
     check "cut at $n: saved" cmp -s "$work/wanted.state" "$work/got.state"
     n=$((n + 1))
 done
+run --live --save "$work/none/x" <"$t"
+check "live, saved in no folder: status $status" same "$status" 1
+check "live, saved in no folder: $(cat "$work/err")" same "$(cat "$work/err")" "$work/none/x: cannot be written: No such file or directory"
+check "live, saved in no folder: an end" same "$(tail -n 1 "$work/out" | cut -c 1-20)" "end: number 0, done,"
+# an interrupt ends the input; the shell has a background program ignore it, so python3 starts it
+rm -f "$work/got.state"
+python3 - "$show" "$t" "$work/got.state" >"$work/out" <<'END'
+import signal, subprocess, sys, time
+live = subprocess.Popen([sys.argv[1], "--live", "--save", sys.argv[3]], stdin=subprocess.PIPE, stdout=subprocess.PIPE)
+live.stdin.write(open(sys.argv[2], "rb").read())
+live.stdin.flush()
+time.sleep(0.5)
+live.send_signal(signal.SIGINT)
+print(live.stdout.read().decode().splitlines()[-1].split(",")[0], live.wait())
+END
+check "live, interrupted: $(cat "$work/out")" same "$(cat "$work/out")" "end: number 0 0"
+check "live, interrupted: saved" cmp -s "$work/wanted.state" "$work/got.state"
 { cat "$t"; records "2 0 80" "2 0 00"; } | "$show" --live --save "$work/got.state" >/dev/null 2>&1
 check "live, saved where a record is refused" cmp -s "$work/wanted.state" "$work/got.state"
 rm -f "$work/got.state"
@@ -369,6 +409,9 @@ paged "to the end and on" "    n j q" 0 1 2 3 4 5 6
 paged "back and forth" "  bbbn	xpq" 0 1 2 1 0 1 0
 paged "first and last" "GgGkq" 0 6 0 6 5
 paged "arrows" "<ESC>[B<ESC>[C<ESC>[D<ESC>[A<ESC>[F<ESC>[H<ESC>[Zq" 0 1 2 1 0 6 0
+paged "page keys" "<ESC>[6~<ESC>[6~<ESC>[5~<ESC>[4~<ESC>[1~<ESC>[8~<ESC>[7~<ESC>[2~q" 0 1 2 1 6 0 6 0
+paged "escape alone" "$(printf ' \033 \033q')" 0 1 2
+paged "escape and Ctrl-C" "$(printf ' \033\003')" 0 1
 paged "left with Ctrl-C" "$(printf ' \003')" 0 1
 paged "left with Ctrl-D" "$(printf ' \004')" 0 1
 on_terminal 130 "" "$t" --changes --list; done_with "pages, --list" 0 ""

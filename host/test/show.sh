@@ -147,7 +147,7 @@ for header in 'P1' 'P4\n' 'P4\n122' 'P4\n122 \n# 16' 'P4\n122 16' 'P4\n122 16x' 
 done
 for size in "122 33" "122 31" "32 122" "16 122" "121 16" "122 17" "0 0" "999999999 16"; do
     { printf 'P4\n%s\n' "$size"; new_rows packed; } >"$picture"
-    bad_picture "is ${size% *} by ${size#* }, a repaint takes 122 by 16"
+    bad_picture "is ${size% *} by ${size#* }, a repaint takes 122 by 16, or by 32 with a blank lower half"
 done
 for length in 0 1 255; do
     { printf 'P4\n122 16\n'; new_rows packed | head -c $length; } >"$picture"; bad_picture "$damage it ends before its last pixel"

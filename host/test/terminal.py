@@ -1,8 +1,8 @@
 #!/usr/bin/env python3
 """Runs a command on a terminal of so many columns, types the keys one by one, and copies what it prints.
 
-Usage: terminal.py COLUMNS KEYS COMMAND...; a key is a character or, as <ESC>[A, an escape sequence; each is typed when the
-command has printed nothing for a while. The status is the command's."""
+Usage: terminal.py COLUMNS[xROWS] KEYS COMMAND...; a key is a character or, as <ESC>[A or <ESC>[5~, an escape sequence; each is
+typed when the command has printed nothing for a while. The status is the command's."""
 import fcntl
 import os
 import pty
@@ -17,7 +17,7 @@ LIMIT_SECONDS = 20
 
 
 def keys_of(text):
-    return [key.replace("<ESC>", "\033").encode() for key in re.findall(r"<ESC>\[.|.", text, re.S)]
+    return [key.replace("<ESC>", "\033").encode() for key in re.findall(r"<ESC>\[\d~|<ESC>\[.|.", text, re.S)]
 
 
 def copy_until_quiet(terminal):
@@ -34,10 +34,11 @@ def copy_until_quiet(terminal):
 
 
 def main():
-    columns, keys, command = int(sys.argv[1]), keys_of(sys.argv[2]), sys.argv[3:]
+    columns, _, rows = sys.argv[1].partition("x")
+    keys, command = keys_of(sys.argv[2]), sys.argv[3:]
     process, terminal = pty.fork()
     if process == 0:
-        fcntl.ioctl(0, termios.TIOCSWINSZ, struct.pack("HHHH", 50, columns, 0, 0))
+        fcntl.ioctl(0, termios.TIOCSWINSZ, struct.pack("HHHH", int(rows or 50), int(columns), 0, 0))
         os.execvp(command[0], command)
     quiet = 0
     while copy_until_quiet(terminal) and quiet < LIMIT_SECONDS / QUIET_SECONDS:

@@ -67,6 +67,39 @@ refusal 7 "a byte that is no command" "2 1 E3"
 refusal 8 "a column set while read-modify-write is on" "2 0 0A"
 refusal 14 "a column set over 79 (4F hex), the last column of RAM" "2 1 50"
 
+# past what is refused, which is left out
+records "2 0 0A" "2 0 E0" "2 0 0A" "3 0 A5" "2 0 80" "2 3 00" "2 0 EE" "5 0 00" "5 0 A5" "5 0 01" >"$t"
+run "$t" --skip; done_with "skip" 0 ""
+cat >"$work/wanted" <<'.'
+     0: left  column 10               # 0A  accepted
+     1: left  read-modify-write on    # E0  accepted
+     2: left  column 10               # 0A  refused: number 8, a column set while read-modify-write is on
+     3: left  data write A5           # A5  accepted at page 0, column 10
+     4: left  command 80              # 80  refused: number 7, a byte that is no command
+     5: raw 02 03 00 00               # 00  refused: number 5, a chip over 1
+     6: left  read-modify-write off   # EE  accepted
+     7: left  data read 00            # 00  empty read: the chip gives 00, not compared
+     8: left  data read A5            # A5  the chip gives A5, as recorded
+     9: left  data read 01            # 01  differs: recorded 01, the chip gives 00
+# refused and left out: 3
+# end: number 0, done, place 7; records taken: 7, reads compared: 2, differing: 1
+.
+printed "skip" "$work/wanted"
+left_out() { # LABEL: what text --skip tells of $t is what text tells of it without the refused records
+    "$show" --skip "$t" 2>/dev/null >"$work/skipped"
+    grep -v '  refused: ' "$work/skipped" | "$show" --back >"$work/clean"
+    "$show" "$work/clean" 2>/dev/null | sed 's/^ *[0-9]*: //' >"$work/wanted"
+    grep -v '  refused: \|^# refused' "$work/skipped" | sed 's/^ *[0-9]*: //' >"$work/out"
+    printed "$1, skip" "$work/wanted"
+}
+
+# a read that differs, as a fault where that is asked for
+run "$t" --skip --check; done_with "check" 1 "$t: compared reads that differ: 1 of 2"
+printed "check" "$work/wanted"
+run "$examples/name.trace" --check; done_with "check, nothing differs" 0 ""
+run "$examples/listing.trace" --check; done_with "check, the listing" 1 "$examples/listing.trace: compared reads that differ: 1 of 2"
+run "$t" --check; done_with "check, refused" 1 "$t: record 2 refused: number 8, a column set while read-modify-write is on"
+
 # from another state, as show saves it; and over the limit of one call
 "$viewer" "$examples/listing.trace" --save "$work/state" >/dev/null
 records "4 0 60" "5 0 A5" "2 0 4F" "5 0 00" "5 0 A5" >"$t"
@@ -123,6 +156,7 @@ for kind in good damaged cut noise; do
         "$tests/traces.py" $kind $seed $((seed * seed * 10)) >"$t"
         back "$kind $seed"
         case $kind in good | damaged) told "$kind $seed" ;; esac
+        left_out "$kind $seed"
     done
 done
 "$tests/traces.py" good 16 16384 >"$t"; back "the longest good one"; told "the longest good one"
@@ -192,21 +226,29 @@ at_fault() { # LINE WORDS TEXT: refused with these words, nothing written
     printf -- "$3" >"$text"
     refused "at fault: $3" 1 "$text: line $1: $2" --back "$text"
 }
-begin="a record begins with left, right or raw" none="no such record, or a number out of its range; see --help"
-for words in "reset" "lefty reset" "both reset" "0 reset" "l" "12 left reset" "12 : left reset" "-1: left reset" ": left reset" "\377\376left reset"; do
-    at_fault 1 "$begin" "$words"
+wrong() { at_fault 1 "\"$2\": $1; see text --help" "$2"; } # WHAT TEXT
+begin="a record begins with left, right or raw" none="no such record"
+for words in "reset" "lefty reset" "both reset" "0 reset" "l" "12 left reset" "12 : left reset" "-1: left reset" ": left reset"; do
+    wrong "$begin" "$words"
 done
-for words in "left" "left 5" "left column" "left column 128" "left column -1" "left column 0x10" "left column 1 2" "left column1" "left page 4" \
-    "left page four" "left start line 32" "left start" "left duty 1/8" "left display" "left display on on" "left ADC" "left write" "left write 100" \
-    "left write G0" "left write 0x10" "left write 1 2" "left command" "left command 100" "left read 1 2" "left read x" "left status 123" \
-    "left data" "left resets" "left column 99999999999999999999999" "left left reset" "left raw 02 00 E2 00" "left column 10; a comment"; do
-    at_fault 1 "$none" "$words"
+at_fault 1 "\"??left reset\": $begin; see text --help" "\377\376left reset"
+at_fault 1 "\"12:right ne?it\": $none; see text --help" "12:RIGHT  \t  ne\033it  # a comment"
+for words in "left" "left 5" "left column1" "left start" "left duty 1/8" "left display" "left display on on" "left adc" "left write" "left write 100" \
+    "left write g0" "left write 0x10" "left write 1 2" "left command" "left command 100" "left read 1 2" "left read x" "left status 123" \
+    "left data" "left resets" "left left reset" "left raw 02 00 e2 00"; do
+    wrong "$none" "$words"
 done
-for words in "raw" "raw x" "raw 1 2 3 4 5" "raw 100" "raw 02,00" "raw 02 00 E2 00 left"; do
-    at_fault 1 "raw takes one to four bytes, each of two hex digits" "$words"
+for words in "left column" "left column 128" "left column -1" "left column 0x10" "left column 1 2" "left column 99999999999999999999999" \
+    "left column 10; a comment"; do
+    wrong "it takes a number from 0 to 127" "$words"
 done
-at_fault 4 "$none" "left reset\n# \n\nleft pgae 1\nleft nothing\n"
-at_fault 3 "$begin" "left reset\n\nreset"
+for words in "right page 4" "right page four" "7:right page"; do wrong "it takes a number from 0 to 3" "$words"; done
+wrong "it takes a number from 0 to 31" "left start line 32"
+for words in "raw" "raw x" "raw 1 2 3 4 5" "raw 100" "raw 02,00" "raw 02 00 e2 00 left"; do
+    wrong "raw takes one to four bytes, each of two hex digits" "$words"
+done
+at_fault 4 "\"left pgae 1\": $none; see text --help" "left reset\n# \n\nleft pgae 1\nleft nothing\n"
+at_fault 3 "\"reset\": $begin; see text --help" "left reset\n\nreset"
 at_fault 2 "a record after one that is cut short" "raw 02 00\nleft reset\n"
 at_fault 1 "no text: it has a byte 0" "left reset\000\n"
 { printf 'left reset\n#'; repeated 1000 x; } >"$text"
@@ -244,16 +286,25 @@ for option in -x --foo --text ---; do refused "$option" 2 "text: unknown option 
 refused "--back twice" 2 'text: more than one "--back"; see text --help' --back --back
 refused "--back with a value" 2 'text: no value goes with "--back"; see text --help' --back=1
 refused "--start last" 2 'text: no value after "--start"; see text --help' "$t" --start
-refused "--back from a state" 2 'text: --back goes without "--start"; see text --help' --back --start "$work/state"
+for option in "--start x" --skip --check; do
+    # shellcheck disable=SC2086
+    refused "--back $option" 2 "text: --back goes without \"${option% x}\"; see text --help" --back $option
+done
+refused "two standard inputs" 2 'text: only one of the files that are read can be "-"; see text --help' - --start -
+refused "two standard inputs, one not named" 2 'text: only one of the files that are read can be "-"; see text --help' --start -
+cp "$t" "$work/both"
+# shellcheck disable=SC2094
+"$show" "$work/both" >>"$work/both" 2>"$work/err"; status=$?
+done_with "appended to what is read" 1 "$work/both: is standard output too"
 "$tests/terminal.py" 80 "" "$show" --back "$text" >"$work/out"; status=$?
 check "back to a terminal: status $status" same "$status" 2
 check "back to a terminal" same "$(tr -d '\r' <"$work/out")" \
-    'text: a trace is no text: send it to a file or a pipe, not to "a terminal"; see text --help'
+    'text: bytes are no text: send them to a file or a pipe, not to "a terminal"; see text --help'
 for option in --help -h; do
     run $option; done_with "$option" 0 ""
-    check "$option: usage" same "$(head -n 1 "$work/out")" "Usage: text [TRACE] [--start FILE]"
+    check "$option: usage" same "$(head -n 1 "$work/out")" "Usage: text [TRACE] [--start FILE] [--skip] [--check]"
     check "$option: wider than a terminal" same "$(awk 'length($0) > 79' "$work/out")" ""
-    for listed in --start --back "-h, --help" --version; do
+    for listed in --start --skip --check --back "-h, --help" --version; do
         check "$option: $listed" same "$(grep -c -e "^  $listed " "$work/out")" 1
     done
 done

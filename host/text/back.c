@@ -25,6 +25,16 @@ static bool wrong_line(const struct text *text, const char *what)
     return false;
 }
 
+/* The line's words as they were understood; what no terminal shows is a question mark. */
+static bool wrong_words(const struct text *text, const char *what)
+{
+    fprintf(stderr, "%s: line %lu: \"", text->name, text->line);
+    for (const char *at = text->words; *at != '\0'; at++)
+        fputc(isprint((unsigned char)*at) ? *at : '?', stderr);
+    fprintf(stderr, "\": %s; see %s --help\n", what, program);
+    return false;
+}
+
 /* ---- words ---- */
 
 /* Puts the line in lower case, without its comment, one space between two words and none at the ends. */
@@ -106,15 +116,25 @@ static bool take_cycle(const char *words, uint8_t record[RECORD])
     return false;
 }
 
+static bool wrong_cycle(const struct text *text, const char *words)
+{
+    char what[sizeof "it takes a number from 0 to 4294967295"];
+    unsigned highest;
+    if (!takes_number(words, &highest))
+        return wrong_words(text, "no such record");
+    snprintf(what, sizeof what, "it takes a number from 0 to %u", highest);
+    return wrong_words(text, what);
+}
+
 static bool take_record(struct text *text, const char *words)
 {
     uint8_t record[RECORD] = { 0 };
     if (take_words(&words, "right"))
         record[1] = 1;
     else if (!take_words(&words, "left"))
-        return wrong_line(text, "a record begins with left, right or raw");
+        return wrong_words(text, "a record begins with left, right or raw");
     if (!take_cycle(words, record))
-        return wrong_line(text, "no such record, or a number out of its range; see --help");
+        return wrong_cycle(text, words);
     return append(&text->trace, record, RECORD);
 }
 
@@ -126,7 +146,7 @@ static bool take_raw(struct text *text, const char *words)
     while (length < RECORD && take_byte(&words, &bytes[length]))
         length++;
     if (length == 0 || *words != '\0')
-        return wrong_line(text, "raw takes one to four bytes, each of two hex digits");
+        return wrong_words(text, "raw takes one to four bytes, each of two hex digits");
     return append(&text->trace, bytes, length);
 }
 

@@ -12,7 +12,7 @@
 const char own_name[] = "text";
 
 const char usage[] =
-    "Usage: %s [TRACE] [--start FILE]\n"
+    "Usage: %s [TRACE] [--start FILE] [--skip] [--check]\n"
     "       %s --back [TEXT]\n"
     "\n"
     "Sends the bus records of the file TRACE to two fresh chips with RAM all 0, and\n"
@@ -22,6 +22,9 @@ const char usage[] =
     "reads standard input.\n"
     "\n"
     "  --start FILE  begin with the chips and RAM of FILE, as show --save writes it\n"
+    "  --skip        leave a refused record out and go on; else those after it are\n"
+    "                told without an answer\n"
+    "  --check       status 1 where a compared read differs, too\n"
     "  --back        the other way: make a text a trace, on standard output\n"
     "  -h, --help    print this\n"
     "  --version     print the version\n"
@@ -99,12 +102,14 @@ static void print_record(unsigned long number, const uint8_t record[RECORD])
 
 struct telling {
     struct run run;
+    bool skip;
+    unsigned long skipped;  /* refused records left out so far */
     unsigned long number;   /* of the next record */
     size_t length;          /* of what is read and not told yet */
     uint8_t bytes[RECORD + PART];
 };
 
-/* A copy of the run tells what the record changed; RAM is not looked at. */
+/* A copy of the run tells what the record changed, and where to go on from where it is refused and to be left out. */
 static void tell_record(struct telling *telling, const uint8_t record[RECORD])
 {
     struct run before = telling->run;
@@ -114,6 +119,10 @@ static void tell_record(struct telling *telling, const uint8_t record[RECORD])
     print_record(telling->number, record);
     print_answer(&telling->run, &before, record, answer);
     telling->number++;
+    if (telling->skip && !is_open(&telling->run)) {
+        telling->run = before;
+        telling->skipped++;
+    }
 }
 
 /* Tells what is whole, and moves the rest to the front. */
@@ -151,36 +160,63 @@ static bool tell_input(struct telling *telling, struct input *input)
     return got == 0;
 }
 
-bool tell_trace(const char *path, const char *start)
+static bool all_as_recorded(const struct run *run)
+{
+    if (pedralume_feed_differing(run->feed) == 0)
+        return true;
+    fprintf(stderr, "%s: compared reads that differ: %lu of %lu\n", run->name,
+            (unsigned long)pedralume_feed_differing(run->feed), (unsigned long)pedralume_feed_compared(run->feed));
+    return false;
+}
+
+bool tell_trace(const char *path, const struct manner *manner)
 {
     static struct telling telling;
     struct input input;
+    telling.skip = manner->skip;
     if (!open_input(&input, path))
         return false;
-    if (!begin_run(&telling.run, input.name, start) || !tell_input(&telling, &input))
+    if (!begin_run(&telling.run, input.name, manner->start) || !tell_input(&telling, &input))
         return false;
     close_input(&input);
     tell_rest(&telling);
-    return tell_end(&telling.run, "# ");
+    if (manner->skip)
+        printf("# refused and left out: %lu\n", telling.skipped);
+    return tell_end(&telling.run, "# ") && (!manner->check || all_as_recorded(&telling.run));
 }
 
 /* ---- the arguments ---- */
 
+static bool may_tell(const char *file, const char *start)
+{
+    bool twice = start != NULL && strcmp(file, "-") == 0 && strcmp(start, "-") == 0;
+    return !twice || wrong_argument("only one of the files that are read can be", "-");
+}
+
+/* Nothing of the manner of telling goes with --back. */
+static bool may_write_trace(const struct manner *manner)
+{
+    if (manner->start != NULL || manner->skip || manner->check)
+        return wrong_argument("--back goes without", manner->start != NULL ? "--start" : manner->skip ? "--skip" : "--check");
+    return !isatty(STDOUT_FILENO) || wrong_argument("bytes are no text: send them to a file or a pipe, not to", "a terminal");
+}
+
 int main(int argc, char **argv)
 {
-    const char *file = NULL, *start = NULL, *back = NULL;
-    const struct option options[] = { { "--start", true, &start }, { "--back", false, &back } };
+    const char *file = NULL, *start = NULL, *skip = NULL, *check = NULL, *back = NULL;
+    const struct option options[] = {
+        { "--start", true, &start }, { "--skip", false, &skip }, { "--check", false, &check }, { "--back", false, &back },
+    };
     int status;
     name_program(argv[0]);
     if (only_told(argc, argv, &status))
         return status;
     if (!read_options(argc, argv, options, sizeof options / sizeof options[0], &file))
         return STATUS_ARGUMENTS;
-    if (back != NULL && start != NULL)
-        return wrong_argument("--back goes without", "--start"), STATUS_ARGUMENTS;
-    if (back != NULL && isatty(STDOUT_FILENO))
-        return wrong_argument("a trace is no text: send it to a file or a pipe, not to", "a terminal"), STATUS_ARGUMENTS;
     if (file == NULL)
         file = "-";
-    return (back != NULL ? write_trace(file) : tell_trace(file, start)) ? EXIT_SUCCESS : EXIT_FAILURE;
+    struct manner manner = { start, skip != NULL, check != NULL };
+    if (!(back != NULL ? may_write_trace(&manner) : may_tell(file, start)))
+        return STATUS_ARGUMENTS;
+    return (back != NULL ? write_trace(file) : tell_trace(file, &manner)) ? EXIT_SUCCESS : EXIT_FAILURE;
 }
