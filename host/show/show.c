@@ -135,6 +135,29 @@ static bool check_live(const struct options *options)
     return !is_dash(options->save) || wrong_argument("--live goes without --save to", "-");
 }
 
+/* Options that need another one. */
+static bool check_companions(const struct options *options)
+{
+    if (options->list != NULL && options->changes == NULL)
+        return wrong_argument("--list goes with", "--changes");
+    if (options->delay != NULL && options->every == NULL)
+        return wrong_argument("--delay goes with", "--every");
+    return options->records == NULL || options->repaint != NULL || wrong_argument("--records goes with", "--repaint");
+}
+
+/* What goes to standard output goes there alone, and not to a terminal. */
+static bool check_streams(const struct options *options)
+{
+    if (is_dash(options->trace) + is_dash(options->start) + is_dash(options->repaint) > 1)
+        return wrong_argument("only one of the files that are read can be", "-");
+    if (to_standard_output(options) > 1)
+        return wrong_argument("only one of --pbm, --save and --records can be", "-");
+    if (options->every != NULL && (is_dash(options->save) || is_dash(options->records)))
+        return wrong_argument("--every goes without --save or --records to", "-");
+    return to_standard_output(options) == 0 || !isatty(STDOUT_FILENO)
+        || wrong_argument("bytes are no text: send them to a file or a pipe, not to", "a terminal");
+}
+
 static bool check_options(const struct options *options)
 {
     if (options->live != NULL)
@@ -145,20 +168,7 @@ static bool check_options(const struct options *options)
         return wrong_argument("--at takes a number of records, 0 or more, not", options->at);
     if (options->delay != NULL && (!is_count(options->delay) || strlen(options->delay) > 6))
         return wrong_argument("--delay takes milliseconds, 0 to 999999, not", options->delay);
-    if (options->list != NULL && options->changes == NULL)
-        return wrong_argument("--list goes with", "--changes");
-    if (options->delay != NULL && options->every == NULL)
-        return wrong_argument("--delay goes with", "--every");
-    if (options->records != NULL && options->repaint == NULL)
-        return wrong_argument("--records goes with", "--repaint");
-    if (is_dash(options->trace) + is_dash(options->start) + is_dash(options->repaint) > 1)
-        return wrong_argument("only one of the files that are read can be", "-");
-    if (to_standard_output(options) > 1)
-        return wrong_argument("only one of --pbm, --save and --records can be", "-");
-    if (options->every != NULL && (is_dash(options->save) || is_dash(options->records)))
-        return wrong_argument("--every goes without --save or --records to", "-");
-    return to_standard_output(options) == 0 || !isatty(STDOUT_FILENO)
-        || wrong_argument("bytes are no text: send them to a file or a pipe, not to", "a terminal");
+    return check_companions(options) && check_streams(options);
 }
 
 static bool take_options(int argc, char **argv, struct options *options)
@@ -275,21 +285,26 @@ static bool write_records(const char *path, const struct bytes *records)
 
 /* ---- what is shown ---- */
 
-static bool show_changes(const struct options *options, const struct batch *batch)
+static bool show_changes(const struct options *options, const struct changes *changes, const struct batch *batch)
 {
-    struct changes changes;
-    if (!list_changes(batch, &changes))
-        return false;
-    if (options->every != NULL) {
-        unsigned delay = options->delay != NULL ? (unsigned)strtoul(options->delay, NULL, 10) : usual_delay;
-        return show_every(batch, options->changes != NULL ? &changes : NULL, options->pbm, delay);
-    }
-    if (options->pbm != NULL && !write_changes(options->pbm, &changes, batch))
+    if (options->pbm != NULL && !write_changes(options->pbm, changes, batch))
         return false;
     if (to_standard_output(options) > 0)
         return true;
-    bool pages = options->list == NULL && changes.count > 0 && isatty(STDIN_FILENO) && isatty(STDOUT_FILENO);
-    return pages ? page_changes(&changes, batch) : print_changes(&changes, batch);
+    bool pages = options->list == NULL && changes->count > 0 && isatty(STDIN_FILENO) && isatty(STDOUT_FILENO);
+    return pages ? page_changes(changes, batch) : print_changes(changes, batch);
+}
+
+/* Goes through the batch again, for --changes or --every. */
+static bool show_again(const struct options *options, const struct batch *batch)
+{
+    struct changes changes;
+    bool listed = options->changes != NULL;
+    unsigned delay = options->delay != NULL ? (unsigned)strtoul(options->delay, NULL, 10) : usual_delay;
+    if (listed && !list_changes(batch, &changes))
+        return false;
+    return options->every != NULL ? show_every(batch, listed ? &changes : NULL, options->pbm, delay)
+                                  : show_changes(options, &changes, batch);
 }
 
 static bool show_panel(const struct options *options, const struct run *run)
@@ -324,7 +339,7 @@ static bool show_trace(const struct options *options)
         || (options->records != NULL && !write_records(options->records, &kept)))
         return false;
     struct batch batch = { &before, kept.at, kept.length / RECORD };
-    return again ? show_changes(options, &batch) : show_panel(options, &run);
+    return again ? show_again(options, &batch) : show_panel(options, &run);
 }
 
 int main(int argc, char **argv)
