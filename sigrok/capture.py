@@ -8,10 +8,11 @@ class Bus:
 
     wiring: 'two' selects; or only cs0, for the 'left' or the 'right' chip or, by its 'level', for both.
     chance: makes the times vary, and lets lines move wherever no chip looks at them; without it all is short and still.
+    least: how many samples a strobe of play is low, or more.
     """
 
-    def __init__(self, wiring='two', active=0, chance=None):
-        self.wiring, self.active, self.chance = wiring, active, chance
+    def __init__(self, wiring='two', active=0, chance=None, least=1):
+        self.wiring, self.active, self.chance, self.least = wiring, active, chance, least
         self.lines = dict(data=0xff, a0=1, rd=1, wr=1, cs0=1 - active, cs1=1 - active)
         self.samples = []
 
@@ -64,7 +65,8 @@ class Bus:
             self.chance.shuffle(order)
         for strobe in order:
             self.lines[strobe] = 1
-            if self.chance and self.chance.randrange(2):
+            # By level there is no level that selects none: the other chip would be selected under the strobe that is still low.
+            if self.chance and self.chance.randrange(2) and (self.wiring != 'level' or strobe == order[-1]):
                 self.lines.update(self.select())
             if strobe != order[-1] and self.chance and self.chance.randrange(2):
                 continue                            # both in the same sample
@@ -76,7 +78,7 @@ class Bus:
         self.upset(2)
         self.fall(strobes, chips)
         self.upset(2, but=('selects',))
-        self.hold(self.chance.choice((1, 1, 2, 5)) if self.chance else 1, data=data, a0=lines & 1)
+        self.hold(max(self.least, self.chance.choice((1, 1, 2, 5)) if self.chance else 1), data=data, a0=lines & 1)
         self.rise(strobes)
 
     def play(self, trace):

@@ -2,7 +2,9 @@
 
 '''
 The SED1520 is an LCD controller with an 8-bit bus. This decoder follows one or
-two of them, the left and the right chip of a 122 by 32 panel.
+two of them, the left and the right chip of a 122 by 32 panel. Only the
+80-family bus is decoded, with the strobes RD and WR; the 68-family bus, with E
+and R/W, is not.
 
 Each bus cycle of a selected chip, ended by the rise of RD or WR, is told in
 the words of the chip's sheet. The binary output "trace" has a record of 4

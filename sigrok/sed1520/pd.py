@@ -121,9 +121,9 @@ class Decoder(srd.Decoder):
 
     def reset(self):
         self.low_since = {RD: 0, WR: 0}
-        self.seen = {RD: set(), WR: set()}          # chips selected at any sample since the strobe fell
-        self.taken = {RD: False, WR: False}         # low still, but in an overlap that is over: its own rise gives no record
-        self.unpowered = False                      # both strobes are low since the capture's start
+        self.selected_since = [0, 0]
+        self.taken = {RD: set(), WR: set()}         # chips selected since their record of both strobes: this one's rise gives them no other
+        self.unpowered = set()                      # strobes low since the capture's start, where both were low there
         self.two_selects = False
         self.read_modify_write = [False, False]
         self.records = 0
@@ -173,8 +173,8 @@ class Decoder(srd.Decoder):
             self.warn(ss, 'record %d, %s: %s: %s' % (self.records, CHIPS[chip], refused, REFUSED[number]), refused, str(number))
         self.records += 1
 
-    def cycle(self, ss, pins, chips):
-        '''Tells the cycle that ends here once, and gives each selected chip its record.'''
+    def cycle(self, ss, pins, chips, rising):
+        '''Tells the cycle that ends here once, and gives each of the chips its record.'''
         lines = pins[A0] | pins[RD] << 1 | pins[WR] << 2
         byte = sum(pins[bit] << bit for bit in range(8))
         told = cycle_words(lines, byte)
@@ -189,44 +189,55 @@ class Decoder(srd.Decoder):
         if len(chips) == 2 and lines in (4, 5):
             clash = 'both chips selected for a read'
             self.warn(ss, '%s: %s: they drive the bus against each other' % (records, clash), clash, 'both')
+        if any(0 < self.low_since[strobe] == self.samplenum - 1 for strobe in rising):
+            brief = 'strobe low for one sample'
+            self.warn(ss, '%s: %s: sample faster, or a glitch' % (records, brief), brief, 'brief')
         for chip in chips:
             self.record(ss, lines, chip, byte)
 
-    def strobes_end(self, ss, pins, strobes):
-        '''At a rise: pins are those of the sample before, strobes those that were low in it.'''
-        chips = self.selected(pins)
-        if chips:
-            self.cycle(ss, pins, chips)
-        for chip in sorted(set().union(*(self.seen[strobe] for strobe in strobes)).difference(chips)):
-            early = 'deselected before the rise'
-            self.warn(ss, '%s: %s of the strobe: no record' % (CHIPS[chip], early), early, 'early')
+    def owed(self, pins, strobes):
+        '''The chips to which the end of these strobes, low with these levels, gives a record.'''
+        powered = [strobe for strobe in strobes if strobe not in self.unpowered]
+        return [chip for chip in self.selected(pins) if any(chip not in self.taken[strobe] for strobe in powered)]
 
     def rise(self, before, rising):
-        if before[RD] or before[WR]:
-            if not self.taken[rising[0]]:
-                self.strobes_end(self.low_since[rising[0]], before, rising)
+        low = [strobe for strobe in STROBES if not before[strobe]]
+        since = max(self.low_since[strobe] for strobe in low)
+        if len(self.unpowered) == 2:
+            self.warn(since, "both strobes low since the capture's start: no record", 'both strobes low at the start', 'start')
+        chips = self.owed(before, low)
+        if chips:
+            self.cycle(since, before, chips, rising)
+        for strobe in low:
+            self.taken[strobe].update(chips)
+
+    def select(self, before, now):
+        '''Chips that come and go: one that goes under a strobe that stays low has no record of it.'''
+        old, new = self.selected(before), self.selected(now)
+        if old == new:
             return
-        # Both were low: one record at the first rise, none when the other one rises later.
-        overlap_since = max(self.low_since.values())
-        if self.unpowered:
-            self.warn(overlap_since, "both strobes low since the capture's start: no record", 'both strobes low at the start', 'start')
-        else:
-            self.strobes_end(overlap_since, before, STROBES)
-        self.unpowered = False
-        self.taken = {RD: True, WR: True}
+        low = [strobe for strobe in STROBES if not before[strobe] and not now[strobe]]
+        for chip in self.owed(before, low):
+            if chip not in new:
+                since = max(self.selected_since[chip], min(self.low_since[strobe] for strobe in low))
+                early = 'deselected before the rise'
+                self.warn(since, '%s: %s of the strobe: no record' % (CHIPS[chip], early), early, 'early')
+        for chip in set(new).difference(old):
+            self.selected_since[chip] = self.samplenum
+        for strobe in STROBES:
+            self.taken[strobe].intersection_update(new)
 
     def change(self, before, now):
         rising = [strobe for strobe in STROBES if now[strobe] and not before[strobe]]
         if rising:
             self.rise(before, rising)
+        self.select(before, now)
         for strobe in STROBES:
             if now[strobe]:
-                self.taken[strobe] = False
-                self.seen[strobe] = set()
-                continue
-            if before[strobe]:
+                self.taken[strobe].clear()
+                self.unpowered.discard(strobe)
+            elif before[strobe]:
                 self.low_since[strobe] = self.samplenum
-            self.seen[strobe].update(self.selected(now))
 
     def begin(self, pins):
         '''At the first sample. A channel that is not connected has 255 there; has_channel would say the same, but in
@@ -234,8 +245,8 @@ class Decoder(srd.Decoder):
         self.two_selects = pins[CS1] in (0, 1)
         if self.two_selects and self.options['one_select'] != 'left':
             raise ValueError('one_select is for captures without cs1')
-        self.unpowered = not pins[RD] and not pins[WR]
-        self.change(pins, pins)
+        if not pins[RD] and not pins[WR]:
+            self.unpowered = {RD, WR}
 
     def decode(self):
         pins = self.wait({'skip': 0})
