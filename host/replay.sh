@@ -25,7 +25,7 @@ Status: 0 the whole trace is replayed; 1 it is refused, or there is no whole
 end line (it could not be read to its end, or standard output not be written,
 or the program not be built or found); 2 the argument is at fault: an unknown
 option, more than one file, or a file or a standard input that is missing, a
-directory or not readable.
+directory or not readable. With --text, 1 where the file cannot be read.
 END
 }
 fail() { # STATUS WORDS...
@@ -35,11 +35,12 @@ fail() { # STATUS WORDS...
     exit "$status"
 }
 
-told=
-# what may stand anywhere before --
+# what is no option is kept; what comes after -- is none
+told='' unknown='' options=yes
 for argument; do
+    shift
+    if [ -z "$options" ]; then set -- "$@" "$argument"; continue; fi
     case $argument in
-    --) break ;;
     -h | --help)
         usage 2>/dev/null || fail 1 "standard output cannot be written"
         exit
@@ -49,22 +50,19 @@ for argument; do
         exit
         ;;
     --text) told=yes ;;
+    --)
+        options=''
+        [ -z "$told" ] || set -- "$@" --
+        ;;
+    -?*)
+        unknown=${unknown:-$argument}
+        set -- "$@" "$argument"
+        ;;
+    *) set -- "$@" "$argument" ;;
     esac
 done
-if [ -n "$told" ]; then
-    for argument; do
-        shift
-        [ "$argument" = --text ] || set -- "$@" "$argument"
-    done
-    exec "$teller" "$@"
-fi
-for argument; do
-    case $argument in
-    --) break ;;
-    -?*) fail 2 "unknown option \"$argument\"; see $name --help" ;;
-    esac
-done
-[ "${1-}" != -- ] || shift
+[ -z "$told" ] || exec "$teller" "$@"
+[ -z "$unknown" ] || fail 2 "unknown option \"$unknown\"; see $name --help"
 [ $# -le 1 ] || fail 2 "more than one file: \"$2\"; see $name --help"
 [ "${1-}" != - ] || shift
 if [ $# -eq 1 ]; then

@@ -16,7 +16,7 @@ enum {
     STATUS_ARGUMENTS = 2
 };
 
-/* Each program's own name, and its usage, in which every %s is that name. */
+/* Each program's own name, and its usage, in which two %s stand for what it is called by. */
 extern const char own_name[];
 extern const char usage[];
 
@@ -70,6 +70,9 @@ bool read_file(const char *path, uint8_t *bytes, size_t room, size_t *length);
 
 /* "-" is standard output. Gives NULL where it fails, also for a file that is read. */
 FILE *open_output(const char *path);
+
+/* Whether open_output will have the file, as far as can be told before; makes it where it is missing, and leaves it else. */
+bool can_be_written(const char *path);
 
 /* Whether all that was written has really gone out; also called where some was not (all_written false). */
 bool close_output(FILE *file, const char *path, bool all_written);
@@ -128,10 +131,16 @@ bool has_words(const uint8_t record[RECORD]);
 /* "left" or "right". */
 const char *chip_words(unsigned chip);
 
-/* What the record does, without its chip: "start line 16", "data write A5". The words are a few dozen bytes at most. */
+/* What a record that has words does, without its chip: "start line 16", "data write A5". 32 bytes are room enough. */
 void cycle_words(const uint8_t record[RECORD], char *words, size_t room);
 
-/* Only answers: whether these are the words of a command, in lower case and a space between two; then gives its byte. */
+/* Only answers: whether the words, in lower case and a space between two, begin with these; then goes past them. */
+bool take_words(const char **words, const char *wanted);
+
+/* The same for those of a cycle that is said with its byte; then gives its lines. */
+bool take_cycle_words(const char **words, uint8_t *lines);
+
+/* Only answers: whether these are the words of a command, so written; then gives its byte. */
 bool command_of(const char *words, uint8_t *byte);
 
 /* Only answers: whether these begin with the words of a command that takes a number; then gives the highest. */

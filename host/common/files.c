@@ -140,21 +140,33 @@ bool append(struct bytes *bytes, const uint8_t *more, size_t length)
 
 /* ---- output ---- */
 
-FILE *open_output(const char *path)
+static FILE *open_unused(const char *path, const char *mode)
 {
-    if (strcmp(path, "-") == 0)
-        return stdout;
     if (is_used(path)) {
         fprintf(stderr, "%s: is read or written already, and not written over\n", path);
         return NULL;
     }
     errno = 0;
-    FILE *file = fopen(path, "wb");
+    FILE *file = fopen(path, mode);
     if (file == NULL)
         file_failed(path, "cannot be written");
-    else
+    return file;
+}
+
+FILE *open_output(const char *path)
+{
+    if (strcmp(path, "-") == 0)
+        return stdout;
+    FILE *file = open_unused(path, "wb");
+    if (file != NULL)
         remember(fileno(file));
     return file;
+}
+
+bool can_be_written(const char *path)
+{
+    FILE *file = open_unused(path, "ab");
+    return file != NULL && fclose(file) == 0;
 }
 
 bool all_printed(void)

@@ -15,7 +15,7 @@ static bool refuses_record(unsigned number)
     return (number >= PEDRALUME_SPARE_BITS && number <= PEDRALUME_COLUMN_IN_RMW) || number == PEDRALUME_NO_SUCH_COLUMN;
 }
 
-/* The place is how many whole records there are for 3, a chip for 2 and 0 for the others that refuse no record. */
+/* The place is how many records were taken for 3, a chip for 2 and 0 for the others that refuse no record. */
 static bool refused(const struct run *run)
 {
     unsigned number = pedralume_number(run->answer);
@@ -24,7 +24,7 @@ static bool refused(const struct run *run)
     if (refuses_record(number))
         fprintf(stderr, "%s: record %lu refused: number %u, %s\n", run->name, place, number, words);
     else if (number == PEDRALUME_CUT_TRACE)
-        fprintf(stderr, "%s: refused: number %u, %s (whole records: %lu)\n", run->name, number, words, place);
+        fprintf(stderr, "%s: refused: number %u, %s (records taken: %lu)\n", run->name, number, words, place);
     else if (number == PEDRALUME_BAD_CHIP)
         fprintf(stderr, "%s: refused: number %u, %s chip: %s\n", run->name, number, chip_words((unsigned)place), words);
     else

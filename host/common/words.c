@@ -26,7 +26,21 @@ static const struct command {
     { 0xEE, 0xEE, "read-modify-write off" },
 };
 
-enum { COMMANDS = sizeof commands / sizeof commands[0] };
+/* The cycles that are said with their byte; typed, the short words do. */
+static const struct {
+    uint8_t lines;
+    const char *words, *short_words;
+} cycles[] = {
+    { PEDRALUME_COMMAND_WRITE, "command", "command" },
+    { PEDRALUME_DATA_WRITE, "data write", "write" },
+    { PEDRALUME_STATUS_READ, "status read", "status" },
+    { PEDRALUME_DATA_READ, "data read", "read" },
+};
+
+enum {
+    COMMANDS = sizeof commands / sizeof commands[0],
+    CYCLES = sizeof cycles / sizeof cycles[0]
+};
 
 /* ---- to words ---- */
 
@@ -56,18 +70,35 @@ static void command_words(uint8_t byte, char *words, size_t room)
 
 void cycle_words(const uint8_t record[RECORD], char *words, size_t room)
 {
-    static const char *const cycles[] = {
-        [PEDRALUME_DATA_WRITE] = "data write",
-        [PEDRALUME_STATUS_READ] = "status read",
-        [PEDRALUME_DATA_READ] = "data read",
-    };
+    size_t i = 0;
+    while (cycles[i].lines != record[0])
+        i++;
     if (record[0] == PEDRALUME_COMMAND_WRITE)
         command_words(record[2], words, room);
     else
-        snprintf(words, room, "%s %02X", cycles[record[0]], record[2]);
+        snprintf(words, room, "%s %02X", cycles[i].words, record[2]);
 }
 
 /* ---- and back ---- */
+
+bool take_words(const char **words, const char *wanted)
+{
+    size_t length = strlen(wanted);
+    if (strncmp(*words, wanted, length) != 0 || ((*words)[length] != ' ' && (*words)[length] != '\0'))
+        return false;
+    *words += length + ((*words)[length] == ' ');
+    return true;
+}
+
+bool take_cycle_words(const char **words, uint8_t *lines)
+{
+    for (size_t i = 0; i < CYCLES; i++)
+        if (take_words(words, cycles[i].words) || take_words(words, cycles[i].short_words)) {
+            *lines = cycles[i].lines;
+            return true;
+        }
+    return false;
+}
 
 /* What is left of the words after those of the command; NULL where they are not its words. */
 static const char *after(const char *words, const char *command)

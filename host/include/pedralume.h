@@ -410,7 +410,7 @@ extern "C" {
 
 /*
  * The version. The first number rises with a change of what a call gives back or of a format, the second
- * with what is added beside that, the third with any other change. It is said here and nowhere else. The
+ * with what is added beside that, the third with any other change. Programs and install take it from here. The
  * number is for #if: 1.2.3 is 10203.
  */
 #define PEDRALUME_VERSION_MAJOR 1

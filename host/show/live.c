@@ -66,7 +66,7 @@ bool show_live(const char *start, const char *save)
     struct input input;
     signal(SIGPIPE, SIG_IGN);   /* a closed output is then a write that fails, and is said */
     end_input_on_interrupt();
-    if (!open_input(&input, "-") || !begin_run(&live.run, input.name, start)
+    if (!open_input(&input, "-") || !begin_run(&live.run, input.name, start) || (save != NULL && !can_be_written(save))
         || !take_frame(&live.run, live.frame) || !draw(&live, true) || !take_input(&live, &input))
         return false;
     bool saved = save == NULL || save_run(&live.run, save);

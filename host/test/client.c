@@ -121,7 +121,8 @@ static void run_words(void)
 
 static void run_version(void)
 {
-    printf("%d.%d.%d %s\n", PEDRALUME_VERSION_MAJOR, PEDRALUME_VERSION_MINOR, PEDRALUME_VERSION_PATCH, PEDRALUME_VERSION);
+    printf("%d.%d.%d %s %d\n", PEDRALUME_VERSION_MAJOR, PEDRALUME_VERSION_MINOR, PEDRALUME_VERSION_PATCH, PEDRALUME_VERSION,
+           PEDRALUME_VERSION_NUMBER);
 }
 
 static const struct {

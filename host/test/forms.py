@@ -1,7 +1,7 @@
 #!/usr/bin/env python3
 """Prints the text that show must print for a PBM (P4, 122 by 32) in a form: blocks, braille, ascii or halves.
 
-Usage: forms.py FORM PBM. Written from Unicode's charts and show --help alone."""
+Usage: forms.py FORM PBM."""
 import sys
 
 WIDTH, HEIGHT = 122, 32

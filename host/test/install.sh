@@ -12,7 +12,7 @@ mkdir "$work/a copy" "$work/a copy/target" "$work/client" || exit 1
 (cd "$project" && cp -Rp host examples docs "$work/a copy" && cp -Rp target/bin target/staticlib "$work/a copy/target") || exit 1
 cd "$work/a copy" || exit 1
 chmod -R u+w host
-unset MAKEFLAGS MAKEOVERRIDES MAKELEVEL PREFIX BINDIR LIBDIR INCLUDEDIR MANDIR DESTDIR
+unset MAKEFLAGS MAKEOVERRIDES MAKELEVEL PREFIX BINDIR LIBDIR INCLUDEDIR MANDIR DOCDIR DESTDIR
 unset PKG_CONFIG_LIBDIR PKG_CONFIG_SYSROOT_DIR LD_LIBRARY_PATH
 umask 077
 prefix=$work/prefix checks=0 failed=0
@@ -151,7 +151,7 @@ every_example() { # CLIENT
     prints "$1" replay_long "$(lines "0 100000 20000 0" "cut: 3 99999" "spoilt: 5 70000")"
     prints "$1" list_long "$(listed)"
     prints "$1" frame "0 488 3904"
-    prints "$1" version "$version $version"
+    prints "$1" version "$version $version $(echo "$version" | awk -F . '{ print 10000 * $1 + 100 * $2 + $3 }')"
     run "$work/client/$1" words; good "$1: words"
     check "$1: words: not one line for each of 0 to 20" same "$(cut -d ' ' -f 1 "$work/out" | paste -sd ' ')" "$(seq 0 20 | paste -sd ' ')"
     check "$1: words: an empty one" same "$(grep -cE '^[0-9]+ .+' "$work/out")" 21

@@ -185,7 +185,7 @@ run /dev/null --pbm /dev/null; done_with "/dev/null twice" 0 ""
 cp "$t" "$work/both"
 for arguments in "$work/both" "- --changes" "$work/both --every"; do
     # shellcheck disable=SC2086,SC2094
-    "$show" $arguments <"$work/both" >>"$work/both" 2>"$work/err"; status=$?
+    (ulimit -f 1000; trap '' XFSZ; "$show" $arguments <"$work/both" >>"$work/both" 2>"$work/err"); status=$?
     case $arguments in -*) name="standard input" ;; *) name=$work/both ;; esac
     done_with "appended to what is read, $arguments" 1 "$name: is standard output too"
     check "appended to what is read, $arguments" cmp -s "$t" "$work/both"
@@ -244,10 +244,13 @@ while [ $n -le $count ]; do
     check "cut at $n: saved" cmp -s "$work/wanted.state" "$work/got.state"
     n=$((n + 1))
 done
-run --live --save "$work/none/x" <"$t"
-check "live, saved in no folder: status $status" same "$status" 1
-check "live, saved in no folder: $(cat "$work/err")" same "$(cat "$work/err")" "$work/none/x: cannot be written: No such file or directory"
-check "live, saved in no folder: an end" same "$(tail -n 1 "$work/out" | cut -c 1-20)" "end: number 0, done,"
+# looked at before the first record; what fails after it still has an end line
+refused "live, saved in no folder" 1 "$work/none/x: cannot be written: No such file or directory" --live --save "$work/none/x" <"$t"
+kept "the start, live" "$work/state" --live --start "$work/state" --save "$work/state" </dev/null
+run --live --save /dev/full <"$t"
+check "live, saved on a full disk: status $status" same "$status" 1
+check "live, saved on a full disk: $(cat "$work/err")" same "$(cat "$work/err")" "/dev/full: cannot be written: No space left on device"
+check "live, saved on a full disk: an end" same "$(tail -n 1 "$work/out" | cut -c 1-20)" "end: number 0, done,"
 # an interrupt ends the input; the shell has a background program ignore it, so python3 starts it
 rm -f "$work/got.state"
 python3 - "$show" "$t" "$work/got.state" >"$work/out" <<'END'
@@ -308,7 +311,7 @@ for size in 65540 80000 400000; do
     shown "$size bytes" "$t"; pixels "$size bytes" "32 $dark"
     refused "$size bytes, past the end" 1 "$t: has only $((size / 4)) records, --at asks for $((size / 4 + 1))" "$t" --at $((size / 4 + 1))
     printf '\004' >>"$t"
-    refused "$size bytes, cut short" 1 "$t: refused: number 3, a trace that ends inside a record (whole records: $((size / 4)))" "$t"
+    refused "$size bytes, cut short" 1 "$t: refused: number 3, a trace that ends inside a record (records taken: $((size / 4)))" "$t"
 done
 # lights and clears the left half, then with a data write a byte in every second line: records that change the panel on either side of each cut
 { records "2 0 AF" "2 1 AF"; repeated 25000 abcdefcdabgdhiid | tr abcdefghi '\002\000\245\000\003\001\244\005\001'; } >"$t"
@@ -419,9 +422,11 @@ on_terminal 130 "" "$t" --changes --list; done_with "pages, --list" 0 ""
 head -c 4 "$t" >"$work/one"
 on_terminal 130 "" "$work/one" --changes; done_with "pages, none" 0 ""
 check "pages, none" same "$(cat "$work/out")" "0 of 1 records changed what the panel shows"
-# the terminal is left as it was, also where the pages cannot be drawn
+# the terminal is left as it was
 for keys in q "$(printf '\003')"; do
-    "$tests/terminal.py" 130 "$keys" sh -c "stty -g >'$work/before'; '$show' '$t' --changes; stty -g >'$work/after'" >/dev/null
+    rm -f "$work/before" "$work/after"
+    "$tests/terminal.py" 130 "$keys" sh -c "stty -g >'$work/before'; '$show' '$t' --changes; stty -g >'$work/after'" >/dev/null; status=$?
+    check "pages: status $status" same "$status" 0
     check "pages: the terminal is not as before" cmp -s "$work/before" "$work/after"
 done
 

@@ -1,6 +1,6 @@
 #!/usr/bin/env python3
-"""Holds the papers to what the programs do: runs each command that README.md or a file of docs/ shows, and compares what it prints with what
-the paper says; computes the bytes that docs/FORMATS.md gives; and compares its table of numbers with the words that the library has.
+"""Holds the papers to what the programs do: runs each command that README.md or docs/FORMATS.md shows, and compares what it prints with what
+the paper says; computes the bytes that docs/FORMATS.md gives; and compares its table of numbers, and CHANGELOG.md's version, with the header.
 
 A command is an indented line that begins with "$ "; the indented lines after it are what it prints, ".." standing for any lines. It is run with
 links to the programs and examples in a folder of its own, which the commands of one paper share. Usage: papers.py, from any folder, with the
@@ -61,7 +61,7 @@ def try_paper(path, folder):
     environment = dict(os.environ, LC_ALL="C.UTF-8")
     for command, lines in commands_of(read(path)):
         run = subprocess.run(["bash", "-o", "pipefail", "-c", command], cwd=folder, env=environment, capture_output=True, text=True, check=False)
-        check(f"{path}: {command}: says {run.stderr!r}", run.stderr == "")
+        check(f"{path}: {command}: status {run.returncode}, says {run.stderr!r}", (run.returncode, run.stderr) == (0, ""))
         check(f"{path}: {command}: prints something else", re.fullmatch(pattern_of(lines), run.stdout), run.stdout[:2000])
 
 
@@ -101,6 +101,14 @@ def try_bytes(text):
     answer = library.call("replay", lent(FRESH), lent([0] * 640), listing, lent([0] * 18))
     check("the 64-bit answer", f"`{answer:#x}`" in flat, hex(answer))
     check("the fresh chip", f"`{words(FRESH[:12])}`" in flat)
+    for chip, page, column, byte, place in [(0, 0, 0, 0x01, 0), (1, 3, 60, 0x80, 487)]:
+        chips, ram, frame = bytearray(FRESH), bytearray(640), lent([0xEE] * 488)
+        chips[12 * chip] = 1
+        ram[320 * chip + 80 * page + column] = byte
+        library.call("frame", lent(chips), lent(ram), frame)
+        check(f"the frame's byte {place}", bytes(frame) == bytes(byte if at == place else 0 for at in range(488)))
+        told = f"{byte:02X} at page {page}, column {column} of the {'right' if chip else 'left'} chip"
+        check(f"the frame's byte {place} is told", told in flat and f"byte {place}" in flat)
 
 
 # ---- numbers ----
@@ -115,12 +123,19 @@ def try_numbers(text):
     check("the table of numbers", told == wanted and len(told) == 16, f"{told}\n{wanted}")
 
 
+def try_version():
+    version = ".".join(re.findall(r"#define PEDRALUME_VERSION_(?:MAJOR|MINOR|PATCH) (\d+)", read("host/include/pedralume.h")))
+    last = re.search(r"^## (\S+)", read("CHANGELOG.md"), re.M).group(1)
+    check(f"CHANGELOG.md's last version is {last}, the header's {version}", last == version)
+
+
 def main():
     for path in PAPERS:
         with tempfile.TemporaryDirectory() as folder:
             try_paper(path, folder)
     try_bytes(read("docs/FORMATS.md"))
     try_numbers(read("docs/FORMATS.md"))
+    try_version()
     print(f"papers: {checks} checks, {failed} failed")
     sys.exit(failed != 0)
 

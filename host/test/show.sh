@@ -227,8 +227,8 @@ refused_at_2 14 "$no_column" "2 0 7F" "2 0 4F"
 records "2 0 AF" "3 0 01" >"$t"
 printf '\003\000' >>"$t"
 cut="refused: number 3, a trace that ends inside a record"
-refused "cut short" 1 "$t: $cut (whole records: 2)" "$t"
-refused "cut short, changes" 1 "$t: $cut (whole records: 2)" "$t" --changes
+refused "cut short" 1 "$t: $cut (records taken: 2)" "$t"
+refused "cut short, changes" 1 "$t: $cut (records taken: 2)" "$t" --changes
 refused "cut short at 3" 1 "$t: has only 2 records, --at asks for 3" "$t" --at 3
 shown "cut short at 2" "$t" --at 2; pixels "cut short at 2" "1 $first" "31 $dark"
 
@@ -288,9 +288,9 @@ check "live, changes: pictures" same "$(pictures)" 7
 check "live, changes: end" same "$(tail -n 1 "$work/out")" "end: number 0, done, place 13; records taken: 13, reads compared: 2, differing: 1"
 for extra in 1 2 3; do
     { changes; printf '\003\000\377' | head -c $extra; } >"$t"
-    live "cut short by $extra" 3 13 "standard input: $cut (whole records: 13)"
+    live "cut short by $extra" 3 13 "standard input: $cut (records taken: 13)"
 done
-live "cut short" 3 13 "standard input: $cut (whole records: 13)" 5
+live "cut short" 3 13 "standard input: $cut (records taken: 13)" 5
 
 live_refused() { # NUMBER WORDS RECORD [SIZE...]: what comes after the refused record is not looked at
     { changes; records "$3"; changes; printf '\001'; } >"$t"

@@ -1,5 +1,5 @@
 #!/bin/sh
-# Runs ./replay and ./show in a copy of the project, with what is built in it: status, words, and that they run what the sources say now.
+# Runs ./replay, ./show and ./text in a copy of the project, with what is built in it: status, words, and that they run what the sources say now.
 # Usage: wrappers.sh, from any folder. rt is the real one where nothing else is said; each call of it is noted.
 set -u
 project=$(readlink -f "$(dirname "$0")/../..")
@@ -54,6 +54,7 @@ run ./replay examples/listing.trace; replayed "a file"
 run ./replay <examples/listing.trace; replayed "standard input"
 run ./replay - <examples/listing.trace; replayed "-"
 run ./replay -- examples/listing.trace; replayed "--"
+run ./replay examples/listing.trace --; replayed "-- last"
 ln -s "$PWD/replay" "$work/folder/replay"
 cp examples/listing.trace "$work/folder/t"
 run sh -c 'cd ../folder && ./replay t'; replayed "a link, from another folder"
@@ -65,6 +66,12 @@ done
 run ./replay --version; ended "--version" 0 ""; called "--version" ""
 check "--version: '$(cat "$work/out")'" same "$(cat "$work/out")" "$(host/build/show --version | sed 's/show/replay/')"
 run ./replay --text examples/name.trace; ended "--text" 0 ""; printed "--text" "$work/told"; called "--text" ""
+cp examples/name.trace ./--text
+run ./replay --text -- --text; ended "--text of a file of that name" 0 ""; printed "--text of a file of that name" "$work/told"
+rm ./--text
+run ./replay --text --foo examples/name.trace; ended "--text --foo" 2 'text: unknown option "--foo"; see text --help'
+run ./replay --text nowhere; ended "--text, a missing file" 1 "nowhere: cannot be opened: No such file or directory"
+run env told=yes unknown=x options= ./replay examples/listing.trace; replayed "with names of its own around"
 run ./replay examples/name.trace --text; ended "--text last" 0 ""; printed "--text last" "$work/told"; called "--text last" ""
 run ./replay --text <examples/name.trace; ended "--text, standard input" 0 ""; printed "--text, standard input" "$work/told"
 run ./replay --text a b; ended "--text, two files" 2 'text: more than one file: "b"; see text --help'
@@ -143,7 +150,7 @@ cp -p "$work/stamp" target/stamp/replay
 run ./replay examples/listing.trace; replayed "the source as it was"
 rm target/bin/replay
 rt_is "[ ! -e target/stamp/replay ] && cp ../program target/bin/replay"
-run ./replay examples/listing.trace; ended "nothing built" 0 "replay: proving and building, up to a minute"
+run ./replay examples/listing.trace; ended "nothing built" 0 "replay: proving and building, up to two minutes"
 printed "nothing built" crates/replay/stdout
 cp -p "$work/stamp" target/stamp/replay
 rt_is "$real"

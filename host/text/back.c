@@ -5,11 +5,8 @@
 #include <errno.h>
 #include <string.h>
 
-enum {
-    /* More than any record in words takes, with a long comment. */
-    LINE_MAX_BYTES = 1000,
-    PART = 65536
-};
+/* More than any record in words takes, with a long comment. */
+enum { LINE_MAX_BYTES = 1000 };
 
 struct text {
     const char *name;
@@ -52,16 +49,6 @@ static void tidy(char *words)
     words[length] = '\0';
 }
 
-/* Whether the words begin with this word or these; then goes past them and the space after them. */
-static bool take_words(const char **words, const char *wanted)
-{
-    size_t length = strlen(wanted);
-    if (strncmp(*words, wanted, length) != 0 || ((*words)[length] != ' ' && (*words)[length] != '\0'))
-        return false;
-    *words += length + ((*words)[length] == ' ');
-    return true;
-}
-
 /* The number before a record, with its colon. */
 static void skip_number(const char **words)
 {
@@ -86,34 +73,17 @@ static bool take_byte(const char **words, uint8_t *byte)
 
 /* ---- a record ---- */
 
-/* The cycles that are no command in words; a read may go without its byte. */
-static const struct {
-    const char *words;
-    uint8_t lines;
-    bool byte_needed;
-} cycles[] = {
-    { "command", PEDRALUME_COMMAND_WRITE, true },
-    { "data write", PEDRALUME_DATA_WRITE, true },
-    { "write", PEDRALUME_DATA_WRITE, true },
-    { "data read", PEDRALUME_DATA_READ, false },
-    { "read", PEDRALUME_DATA_READ, false },
-    { "status read", PEDRALUME_STATUS_READ, false },
-    { "status", PEDRALUME_STATUS_READ, false },
-};
-
-/* What comes after left or right; lines and byte go into the record. */
+/* What comes after left or right; lines and byte go into the record. A read may go without its byte. */
 static bool take_cycle(const char *words, uint8_t record[RECORD])
 {
     record[0] = PEDRALUME_COMMAND_WRITE;
     if (command_of(words, &record[2]))
         return true;
     record[2] = 0;
-    for (size_t i = 0; i < sizeof cycles / sizeof cycles[0]; i++)
-        if (take_words(&words, cycles[i].words)) {
-            record[0] = cycles[i].lines;
-            return (take_byte(&words, &record[2]) || !cycles[i].byte_needed) && *words == '\0';
-        }
-    return false;
+    if (!take_cycle_words(&words, &record[0]))
+        return false;
+    bool reads = record[0] == PEDRALUME_STATUS_READ || record[0] == PEDRALUME_DATA_READ;
+    return (take_byte(&words, &record[2]) || reads) && *words == '\0';
 }
 
 static bool wrong_cycle(const struct text *text, const char *words)
@@ -186,7 +156,7 @@ static bool take_characters(struct text *text, const uint8_t *bytes, size_t leng
 
 static bool take_text(struct text *text, struct input *input)
 {
-    static uint8_t part[PART];
+    static uint8_t part[65536];
     ssize_t got;
     while ((got = read_some(input, part, sizeof part)) > 0)
         if (!take_characters(text, part, (size_t)got))

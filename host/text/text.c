@@ -21,7 +21,8 @@ const char usage[] =
     "what the chip gives. Then number, place and counts. With no file, or with -, it\n"
     "reads standard input.\n"
     "\n"
-    "  --start FILE  begin with the chips and RAM of FILE, as show --save writes it\n"
+    "  --start FILE  begin with the chips and RAM of FILE, as --save of show or\n"
+    "                pedralume-show writes it\n"
     "  --skip        leave a refused record out and go on; else those after it are\n"
     "                told without an answer\n"
     "  --check       status 1 where a compared read differs, too\n"
@@ -29,10 +30,11 @@ const char usage[] =
     "  -h, --help    print this\n"
     "  --version     print the version\n"
     "\n"
-    "A text has one record a line. What follows # is a comment, and a number with a\n"
-    "colon before a record is skipped, so what this program prints is such a text. A\n"
-    "record is left or right, then one of these; N is decimal, HH a byte in hex, for\n"
-    "a read the byte recorded (00 if not given):\n"
+    "A text has one record a line, of at most 1,000 bytes. What follows # is a\n"
+    "comment, and a number with a colon before a record is skipped, so what this\n"
+    "program prints is such a text. A record is left or right, then one of these; N\n"
+    "is decimal, HH a byte in one or two hex digits, for a read the byte recorded\n"
+    "(00 if not given):\n"
     "\n"
     "  column N (0 to 127)     page N (0 to 3)        start line N (0 to 31)\n"
     "  display on|off          static drive on|off    duty 1/16|1/32\n"
@@ -48,18 +50,21 @@ const char usage[] =
 
 enum {
     PART = 65536,
-    /* "start line 31" and its like; and the longest: raw and four bytes. */
+    /* As much as cycle_words takes. */
     WORDS = 32,
+    /* Of chip and words: the longest are those of read-modify-write. */
     CYCLE_WIDTH = 29
 };
 
 /* ---- a line ---- */
 
-/* What the chip gave, or why it gave nothing. The counts before tell whether this read was compared, and differs. */
+/* What the chip gave, or why it gave nothing. The counts before tell whether this read was compared, and differs; a data
+ * write that stores nothing leaves the column. */
 static void print_answer(const struct run *run, const struct run *before, const uint8_t record[RECORD],
                          const uint8_t answer[PEDRALUME_ANSWER_BYTES])
 {
-    const uint8_t *chip = before->feed + (record[1] == 0 ? 0 : PEDRALUME_CHIP_BYTES);
+    size_t at = record[1] == 0 ? 0 : PEDRALUME_CHIP_BYTES;
+    const uint8_t *chip = before->feed + at, *chip_after = run->feed + at;
     if (!is_open(before))
         printf("not replayed\n");
     else if (!is_open(run))
@@ -71,7 +76,8 @@ static void print_answer(const struct run *run, const struct run *before, const 
     else if (answer[0] == PEDRALUME_KIND_STALE)
         printf("empty read: the chip gives %02X, not compared\n", answer[1]);
     else if (record[0] == PEDRALUME_DATA_WRITE)
-        printf("accepted at page %u, column %u\n", chip[PEDRALUME_PAGE], chip[PEDRALUME_COLUMN]);
+        printf("accepted at page %u, column %u%s\n", chip[PEDRALUME_PAGE], chip[PEDRALUME_COLUMN],
+               chip_after[PEDRALUME_COLUMN] == chip[PEDRALUME_COLUMN] ? ", nothing stored" : "");
     else
         printf("accepted\n");
 }
