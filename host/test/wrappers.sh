@@ -193,8 +193,12 @@ rt_is "$real"
 echo "no Rattle" >>crates/pedralume/src/lib.rt
 run ./show examples/name.trace; ended "show, a broken source" 1 "show: the program cannot be built"; printed "show, a broken source" /dev/null
 run ./text examples/name.trace; ended "text, a broken source" 1 "text: the program cannot be built"; printed "text, a broken source" /dev/null
+for program in show text; do # nothing is built for the usage
+    ./$program --help >/dev/full 2>"$work/err"
+    check "$program --help on a full disk" same $? 1
+done
 mv host/build "$work/build"
-for program in show text; do # nothing need be built for the usage
+for program in show text; do
     for option in -h --help; do
         run ./$program $option; ended "$program $option, nothing built" 0 ""; called "$program $option, nothing built" ""
         "$work/build/$program" --help >"$work/usage"
