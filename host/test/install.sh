@@ -221,6 +221,13 @@ run "$replay" examples/listing.trace; ended "pedralume-replay, no program" 1 "$p
 mv "$work/away" "$prefix/lib/pedralume/replay"
 for program in $programs; do
     run "$prefix/bin/pedralume-$program" examples/name.trace; good "pedralume-$program"
+    run "$prefix/bin/pedralume-$program" --foo
+    check "pedralume-$program --foo: status $status" same "$status" 2
+    check "pedralume-$program --foo: says '$(cat "$work/err")'" same "$(cat "$work/err")" \
+        "pedralume-$program: unknown option \"--foo\"; see pedralume-$program --help"
+    run "$prefix/bin/pedralume-$program" --help; good "pedralume-$program --help"
+    check "pedralume-$program --help: names" same "$(sed -n '1s/ \[.*//p; 2s/ --.*//p' "$work/out" | paste -sd '|')" \
+        "Usage: pedralume-$program|       pedralume-$program"
     check "pedralume-$program: prints nothing" [ -s "$work/out" ]
 done
 
@@ -310,6 +317,13 @@ if [ "$(id -u)" -ne 0 ]; then
 fi
 touch -r host/build/show "host/$archive"
 make_ install PREFIX="$prefix"; good "all there again"
+
+# ---- the pages' own example of a text ----
+
+example=$(sed -n "s/^printf '\(.*\)' > two.txt$/\1/p" host/man/pedralume-text.1 | sed 's/\\en/\\n/g')
+# shellcheck disable=SC2059
+printf "$example" | "$prefix/bin/pedralume-text" --back >"$work/two.trace"
+check "the example of pedralume-text.1" same "$(od -An -tx1 "$work/two.trace" | tr -d ' \n')" 0200af000300a500
 
 # ---- what is built is what the sources say, and an earlier version does not stay ----
 

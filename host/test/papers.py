@@ -100,6 +100,9 @@ def try_bytes(text):
     listing = lent(open(os.path.join(ROOT, "examples/listing.trace"), "rb").read())
     answer = library.call("replay", lent(FRESH), lent([0] * 640), listing, lent([0] * 18))
     check("the 64-bit answer", f"`{answer:#x}`" in flat, hex(answer))
+    refused = re.search(r"that of `([0-9A-F ]*)`", flat).group(1)
+    answer = library.call("replay", lent(FRESH), lent([0] * 640), lent(bytes.fromhex(refused)), lent([0] * 4))
+    check("the 64-bit answer of a refusal", f"number {answer & 255} at record {answer >> 8}, gives `{answer:#x}`" in flat, hex(answer))
     check("the fresh chip", f"`{words(FRESH[:12])}`" in flat)
     for chip, page, column, byte, place in [(0, 0, 0, 0x01, 0), (1, 3, 60, 0x80, 487)]:
         chips, ram, frame = bytearray(FRESH), bytearray(640), lent([0xEE] * 488)
@@ -109,6 +112,16 @@ def try_bytes(text):
         check(f"the frame's byte {place}", bytes(frame) == bytes(byte if at == place else 0 for at in range(488)))
         told = f"{byte:02X} at page {page}, column {column} of the {'right' if chip else 'left'} chip"
         check(f"the frame's byte {place} is told", told in flat and f"byte {place}" in flat)
+
+
+def try_picture(text):
+    """The last byte of the picture is the last that a repaint writes: of the right chip's other page, at its last column."""
+    library, records, ready = Library(), lent([0] * 1016), bytes([1] + [0] * 11) * 2
+    library.call("repaint", lent(ready), lent(bytes(243) + b"\x80"), records)
+    page, column, *writes = (bytes(records)[4 * (126 + 63):][4 * i:4 * i + 4] for i in range(63))
+    check("the picture's page and column", (page, column) == (b"\2\1\xbb\0", b"\2\1\0\0"), words(page + column))
+    check("the picture's bytes", writes == [b"\3\1\0\0"] * 60 + [b"\3\1\x80\0"], words(b"".join(writes)))
+    check("the picture is told", "pixel at column 121, row 15 alone is 243 bytes 00 and then 80" in " ".join(text.split()))
 
 
 # ---- numbers ----
@@ -134,6 +147,7 @@ def main():
         with tempfile.TemporaryDirectory() as folder:
             try_paper(path, folder)
     try_bytes(read("docs/FORMATS.md"))
+    try_picture(read("docs/FORMATS.md"))
     try_numbers(read("docs/FORMATS.md"))
     try_version()
     print(f"papers: {checks} checks, {failed} failed")
