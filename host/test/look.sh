@@ -258,7 +258,8 @@ import signal, subprocess, sys, time
 live = subprocess.Popen([sys.argv[1], "--live", "--save", sys.argv[3]], stdin=subprocess.PIPE, stdout=subprocess.PIPE)
 live.stdin.write(open(sys.argv[2], "rb").read())
 live.stdin.flush()
-time.sleep(0.5)
+live.stdout.readline()  # it is there
+time.sleep(1)
 live.send_signal(signal.SIGINT)
 print(live.stdout.read().decode().splitlines()[-1].split(",")[0], live.wait())
 END
