@@ -44,7 +44,7 @@ bool read_options(int argc, char **argv, const struct option *options, size_t co
 /* Prints usage or version where an argument asks for it; then the status is what the program ends with. */
 bool only_told(int argc, char **argv, int *status);
 
-/* ---- files.c: input, output, and chips with RAM as a file ---- */
+/* ---- files.c: input, output, and bytes that are kept ---- */
 
 /* Call it with errno as the failed call left it, and 0 before that call. */
 bool file_failed(const char *path, const char *what);
@@ -88,7 +88,7 @@ struct bytes {
 };
 bool append(struct bytes *bytes, const uint8_t *more, size_t length);
 
-/* ---- run.c: records to the chips, through a feed, and so of any length ---- */
+/* ---- run.c: records to the chips, through a feed, and so of any length; chips and RAM as a file ---- */
 
 /* Chips and RAM as the records so far have left them; the feed record begins with the chips. */
 struct run {

@@ -121,17 +121,17 @@ static int to_standard_output(const struct options *options)
 /* What --live does not go with. */
 static bool check_live(const struct options *options)
 {
-    const struct option others[] = {
-        { "--repaint", true, (const char **)&options->repaint }, { "--records", true, (const char **)&options->records },
-        { "--at", true, (const char **)&options->at },
-        { "--changes", false, (const char **)&options->changes }, { "--list", false, (const char **)&options->list },
-        { "--every", false, (const char **)&options->every }, { "--delay", true, (const char **)&options->delay },
-        { "--pbm", true, (const char **)&options->pbm },
+    const struct {
+        const char *name, *value;
+    } others[] = {
+        { "--repaint", options->repaint }, { "--records", options->records }, { "--at", options->at },
+        { "--changes", options->changes }, { "--list", options->list }, { "--every", options->every },
+        { "--delay", options->delay }, { "--pbm", options->pbm },
     };
     if (options->trace != NULL)
         return wrong_argument("--live takes standard input and no file:", options->trace);
     for (size_t i = 0; i < sizeof others / sizeof others[0]; i++)
-        if (*others[i].value != NULL)
+        if (others[i].value != NULL)
             return wrong_argument("--live goes without", others[i].name);
     if (is_dash(options->start))
         return wrong_argument("--live reads standard input, and so cannot --start from", "-");

@@ -3,6 +3,7 @@
 # tree by what pkg-config says alone, the examples of the installed header among them, the programs, the man pages.
 # Usage: install.sh PROGRAM..., from any folder: what is installed as pedralume-PROGRAM. All must be built.
 set -u
+. "$(dirname "$0")/checks.sh"
 project=$(readlink -f "$(dirname "$0")/../..")
 work=$(mktemp -d) || exit 1
 trap 'umount "$work/disk" 2>/dev/null; rm -rf "$work"' EXIT
@@ -15,15 +16,8 @@ chmod -R u+w host
 unset MAKEFLAGS MAKEOVERRIDES MAKELEVEL PREFIX BINDIR LIBDIR INCLUDEDIR MANDIR DOCDIR DESTDIR
 unset PKG_CONFIG_LIBDIR PKG_CONFIG_SYSROOT_DIR LD_LIBRARY_PATH
 umask 077
-prefix=$work/prefix checks=0 failed=0
+prefix=$work/prefix
 
-check() { # LABEL COMMAND...: the command must succeed
-    label=$1
-    shift
-    checks=$((checks + 1))
-    "$@" || { failed=$((failed + 1)); echo "install: FAILED: $label"; }
-}
-same() { [ "$1" = "$2" ]; }
 run() { # COMMAND...: leaves $status, $work/out and $work/err
     "$@" >"$work/out" 2>"$work/err"
     status=$?

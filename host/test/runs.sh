@@ -3,15 +3,7 @@
 export LC_ALL=C.UTF-8
 mkdir -p "$work" || exit 1
 t=$work/t.trace picture=$work/in.pbm pbm=$work/out.pbm
-checks=0 failed=0
-
-check() { # LABEL COMMAND...: the command must succeed
-    label=$1
-    shift
-    checks=$((checks + 1))
-    "$@" || { failed=$((failed + 1)); echo "$(basename "$0" .sh): FAILED: $label"; }
-}
-same() { [ "$1" = "$2" ]; }
+. "$(dirname "$0")/checks.sh"
 
 # ---- inputs ----
 

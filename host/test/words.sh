@@ -2,19 +2,11 @@
 # The words for a number: what pedralume_words gives, and that those who say them on their own say the same: the script that gives replay's status,
 # and the decoder for sigrok where there is one. Usage: words.sh, from any folder.
 set -u
+. "$(dirname "$0")/checks.sh"
 cd "$(dirname "$0")/.." || exit 1
 work=$(mktemp -d) || exit 1
 trap 'rm -rf "$work"' EXIT
 script=replay.sh decoder=../sigrok/sed1520/pd.py
-checks=0 failed=0
-
-check() { # LABEL COMMAND...: the command must succeed
-    label=$1
-    shift
-    checks=$((checks + 1))
-    "$@" || { failed=$((failed + 1)); echo "words: FAILED: $label"; }
-}
-same() { [ "$1" = "$2" ]; }
 
 cat >"$work/words.c" <<'END'
 #include "pedralume.h"

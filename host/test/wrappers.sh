@@ -2,6 +2,7 @@
 # Runs ./replay, ./show and ./text in a copy of the project, with what is built in it: status, words, and that they run what the sources say now.
 # Usage: wrappers.sh, from any folder. rt is the real one where nothing else is said; each call of it is noted.
 set -u
+. "$(dirname "$0")/checks.sh"
 project=$(readlink -f "$(dirname "$0")/../..")
 work=$(mktemp -d) || exit 1
 trap 'rm -rf "$work"' EXIT
@@ -12,15 +13,7 @@ unset MAKEFLAGS MAKEOVERRIDES
 calls=$work/calls archive=target/staticlib/libpedralume.a real_rt=$(command -v rt)
 export calls real_rt
 PATH=$work/bin:$PATH
-checks=0 failed=0
 
-check() { # LABEL COMMAND...: the command must succeed
-    label=$1
-    shift
-    checks=$((checks + 1))
-    "$@" || { failed=$((failed + 1)); echo "wrappers: FAILED: $label"; }
-}
-same() { [ "$1" = "$2" ]; }
 run() { # COMMAND...: leaves $status, $work/out and $work/err
     : >"$calls"
     "$@" >"$work/out" 2>"$work/err"
