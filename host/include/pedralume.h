@@ -21,7 +21,8 @@
  *
  * Every buffer is the caller's, before, during and after a call. The library keeps no pointer,
  * allocates nothing and has no global state: any number of threads may call it at once, each on its
- * own buffers. Every call ends. The most stack that a call was seen to take, on x86-64, is 5 KB (changes).
+ * own buffers. Every call ends. No call was seen to take 2 KB of stack on x86-64 ("make -C host stack" in
+ * the project measures it); where a program binds memcpy lazily, the loader takes some 3 KB more once.
  *
  * The caller promises, for each buffer:
  *   - the pointer is not null, even where the length is 0;

@@ -1,7 +1,7 @@
 /*
- * What test.c, changes.c, lists.c, compare.c, feeds.c and bench.c share: random numbers, traces, random
- * states, the plain implementation's names. Everything is static inline, so that each program takes what
- * it needs.
+ * What test.c, changes.c, lists.c, compare.c, feeds.c, stack.c and bench.c share: random numbers, traces,
+ * random states, the plain implementation's names. Everything is static inline, so that each program takes
+ * what it needs.
  */
 #ifndef SUPPORT_H
 #define SUPPORT_H
