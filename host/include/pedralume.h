@@ -12,8 +12,8 @@
  *
  * Chip 0 is the left one, chip 1 the right one.
  *
- * All formats are told below; docs/FORMATS.md, installed as share/doc/pedralume/FORMATS.md, tells them for
- * readers who do not program in C. What a number means in words: pedralume_words. This header is for C99
+ * All formats are described below; docs/FORMATS.md, installed as share/doc/pedralume/FORMATS.md, describes them
+ * for readers who do not program in C. What a number means in words: pedralume_words. This header is for C99
  * or later, and for C++.
  *
  *
@@ -28,7 +28,8 @@
  *   - the pointer is not null, even where the length is 0;
  *   - that many bytes really are there (writable, where the pointer is not to const);
  *   - it overlaps no other buffer of the same call.
- * All else is checked: wrong lengths, impossible chips and damaged records are refused by number.
+ * All else is checked: wrong lengths, impossible chips and damaged records are refused by number. The one
+ * exception is a stopped feed, which repeats its number whatever else it holds (FEED RECORD, below).
  *
  *
  * CHIP RECORD, 12 bytes; two of them, left then right, are the 24 bytes of "chips"

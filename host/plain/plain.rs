@@ -1,6 +1,7 @@
 //! Replay, frame, repaint, feed and changes, written plainly from documents 01 and 02 and, but for
-//! changes, for speed. It is what the archive is compared with and timed against, so it shares nothing
-//! with it.
+//! changes, for speed. The feed record of 48 bytes and the packing of what the feed's calls give back are
+//! in neither paper: they are the project's own. It is what the archive is compared with and timed
+//! against, so it shares no code with it.
 #![forbid(unsafe_code)]
 
 const CHIP: usize = 12;

@@ -24,7 +24,7 @@ const char usage[] =
     "  --start FILE  begin with the chips and RAM of FILE, as --save of show or\n"
     "                pedralume-show writes it\n"
     "  --skip        leave a refused record out and go on; else those after it are\n"
-    "                told without an answer\n"
+    "                printed without an answer\n"
     "  --check       status 1 where a compared read differs, too\n"
     "  --back        the other way: make a text a trace, on standard output\n"
     "  -h, --help    print this\n"
