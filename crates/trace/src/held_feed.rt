@@ -20,7 +20,7 @@ pub fn close_feed(feed: &mut Feed) -> Ran
     ensures { λ r. ⌜ fedOf r (now (feed .exit)) ≡ closeOf (now (feed .entry)) ⌝ }
 {
     let held = *feed;
-    let fed = held.close();
-    *feed = fed.feed;
-    fed.ran
+    let closed = held.close();
+    *feed = closed.feed;
+    closed.ran
 }
