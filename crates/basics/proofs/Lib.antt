@@ -1,4 +1,5 @@
 pub mod Tests
+pub mod Table
 pub mod Parts
 pub mod Halves
 pub mod Lists

@@ -4,3 +4,5 @@ pub mod Counts
 pub mod Halves
 pub mod Lists
 pub mod Run
+pub mod Verdict
+pub mod Table

@@ -1,4 +1,7 @@
-// Choices, lists, buffers, counts and runs: definitions and laws that every other crate uses, and the copying of bytes.
+// Choices, lists, buffers, counts, runs and tables of numbers: definitions and laws that every other crate uses; a number with its place,
+// and the copying of bytes.
+pub mod verdict;
+
 ghost use mathlib.Core.Path.{_≡_};
 ghost use Rattle.basics.specs.Bytes.{copied};
 

@@ -2,7 +2,7 @@
 use Prim.Native.Nat.{ℕ}
 use mathlib.Core.Path.{_≡_, _∙_}
 use Rattle.sed1520.specs.Chip.{fresh}
-use Rattle.sed1520.specs.Panel.{Panel, chipAt, ramAt}
+use Rattle.panel.specs.Panel.{Panel, chipAt, ramAt}
 use Rattle.sed1520.specs.declared.registers.Chip.{Chip}
 use Rattle.sed1520.proofs.Examples.{chip-examples, commanded-chips}
 use Rattle.frame.specs.Frame.{pixel, frameByte}

@@ -1,4 +1,4 @@
--- The frame's call: its sizes, when the frame is given, and how large a place can be.
+-- The frame's call: its sizes, when the frame is given, its numbers, and how large a place can be.
 use Prim.Native.Nat.{ℕ, _<_}
 use native.Mathlib.Omega.{arith}
 use mathlib.Core.Path.{_≡_}
@@ -6,14 +6,17 @@ use mathlib.Core.Bool.{false, not}
 use mathlib.Core.List.{List}
 use lib.Dec.{eqb}
 use lib.ListN.{length}
+use borrow.Author.Needs.{needs}
 use borrow.Author.Tests.{eq-eqb}
+use Rattle.basics.specs.Table.{Cause}
+use Rattle.basics.specs.Verdict.{verdict, Result, result}
+use Rattle.basics.specs.declared.verdict.Verdict.{Verdict}
 use Rattle.basics.proofs.Tests.{neither, no-other}
-use Rattle.sed1520.specs.Chip.{inRange}
-use Rattle.sed1520.specs.Panel.{Panel}
-use Rattle.sed1520.specs.Verdict.{verdict}
-use Rattle.sed1520.proofs.Verdicts.{short-unless, short-filled}
-use Rattle.frame.specs.Frame.{frameBytes, frameOf, frameSizesWrong, framed}
-use Rattle.frame.specs.Laws.{EveryFrameGiven}
+use Rattle.sed1520.specs.Chip.{outOfRange}
+use Rattle.panel.specs.Panel.{Panel}
+use Rattle.frame.specs.Frame.{frameBytes, frameOf, frameSizesWrong, frameTable, framed}
+use Rattle.frame.specs.Laws.{EveryFrameGiven, FrameNumbers}
+use Rattle.frame.proofs.TableCalls.{call-exactly, call-place}
 
 pub sizes-right : (ram frame : ℕ) → frameSizesWrong ram frame ≡ false → (ram ≡ 640) × (frame ≡ frameBytes)
 unfolding frameSizesWrong
@@ -26,9 +29,19 @@ unfolding framed frameSizesWrong
 every-frame-given p buffer whole size =
     rw (eq-eqb (length (p .ram)) 640 (whole .image), eq-eqb (length buffer) frameBytes size, whole .left, whole .right)
 
--- every place fits 16 bits
-pub places-small : (p : Panel) (buffer : List ℕ) → framed p buffer .verdict .place < 65536
+-- the lines of a call
+abbrev table : Panel → List ℕ → List Cause
+table p buffer = frameTable (outOfRange (p .left)) (outOfRange (p .right)) (length (p .ram)) (length buffer)
+
+-- what is given where no line holds
+abbrev given : Panel → Result Verdict (List ℕ)
+given p = result (verdict 0 frameBytes) (frameOf p)
+
+pub frame-numbers : FrameNumbers
 unfolding framed
-places-small p buffer =
-    short-filled (frameSizesWrong (length (p .ram)) (length buffer)) _ (frameOf p) buffer
-    (short-unless (λ c. not (inRange c)) 2 (p .left) (p .right) (verdict 0 frameBytes) (omega arith))
+frame-numbers p buffer = call-exactly (table p buffer) buffer (given p)
+
+-- every place fits 16 bits
+pub places-small : (p : Panel) (buffer : List ℕ) → framed p buffer .answer .place < 65536
+unfolding framed
+places-small p buffer = call-place (table p buffer) buffer (given p) (λ at. at < 65536) (search needs) (λ _. omega arith)

@@ -2,18 +2,23 @@
 use Prim.Native.Nat.{ℕ, suc, _+_, _-_, _*_, _/_, _%_, _^_, _<_, _≤_}
 use native.Mathlib.Omega.{arith}
 use mathlib.Core.Path.{_≡_, refl, sym, _∙_}
-use mathlib.Core.Bool.{Bool, true, false, not, _&&_, and-false}
+use mathlib.Core.Bool.{Bool, true, false, not, _&&_, or-true}
 use mathlib.Core.List.{List}
 use mathlib.Core.Logic.{⊎-elim}
 use lib.Dec.{ltb, leb, eqb}
 use lib.ListN.{length}
 use lib.Pow.{shr-shr}
-use borrow.Author.Tests.{ltb-true, ltb-false, lt-ltb, le-ltb, eq-eqb, ne-eqb}
+use borrow.Author.Tests.{ltb-true, ltb-false, le-leb, lt-leb, eq-eqb}
 use Rattle.basics.specs.Choice.{if}
+use Rattle.basics.specs.Verdict.{verdict}
+use Rattle.basics.proofs.Table.{table-as, exactly-when}
 use Rattle.basics.proofs.Tests.{tested}
 use Rattle.sed1520.specs.Memory.{byteAt}
 use Rattle.sed1520.specs.declared.registers.Chip.{Chip}
-use Rattle.frame.specs.Frame.{segments, columnOf, lineBit, pixel, packedPixels, segmentPixels}
+use Rattle.sed1520.specs.Laws.{Fit}
+use Rattle.frame.specs.Frame.{segments, columnOf, lineBit, pixel, packedPixels, segmentRows, segmentTable, segmentPixels}
+use Rattle.frame.specs.Laws.{SegmentNumbers}
+use Rattle.frame.specs.declared.segment.Segment.{Segment}
 use Rattle.frame.proofs.Packing.{packed-same, packed-bits, packed-bit, wide-upper, wide-lower}
 
 -- eight pixels, and those behind them
@@ -114,37 +119,37 @@ module _ (c : Chip) (ram : List ℕ) (n : ℕ) where
       packed-same rows (λ row. lineBit ram (columnOf c n) (c .«start_line» + row)) (lineBit ram (columnOf c n)) 0 (c .«start_line»)
       (λ i h. let e : 0 + i ≡ i = omega arith in rw e)
 
-  pub no-ram : (length ram ≡ 320 → ⊥) → segmentPixels c ram n ≡ 0
+  segment-shown : segmentRows c ram n
+      ≡ if (not (c .«display_on»)) 0 (if (c .«static_on») 0xFFFFFFFF (if (c .«duty_32») (shown 32) (shown 16)))
+  unfolding pixel
+  segment-shown =
+      switched (not (c .«display_on»)) (c .«static_on») (c .«duty_32») (λ row. lineBit ram (columnOf c n) (c .«start_line» + row))
+      ∙ rw (from-start 32, from-start 16)
+
+  pub segment-dark : not (c .«display_on») ≡ true → segmentRows c ram n ≡ 0
+  segment-dark off = segment-shown ∙ rw off
+
+  module _ (on : not (c .«display_on») ≡ false) where
+    pub segment-lit : c .«static_on» ≡ true → segmentRows c ram n ≡ 0xFFFFFFFF
+    segment-lit static = segment-shown ∙ rw (on, static)
+
+    module _ (ram-shown : c .«static_on» ≡ false) where
+      pub segment-lines : c .«duty_32» ≡ true → segmentRows c ram n ≡ turned ram (columnOf c n) (c .«start_line»)
+      segment-lines duty = segment-shown ∙ rw (on, ram-shown, duty) (lines-turned ram (columnOf c n) (c .«start_line»))
+
+      pub segment-upper : c .«duty_32» ≡ false → segmentRows c ram n ≡ turned ram (columnOf c n) (c .«start_line») % 2 ^ 16
+      segment-upper duty = segment-shown ∙ rw (on, ram-shown, duty) (upper-lines ram (columnOf c n) (c .«start_line»))
+
+  -- a segment that its chip does not drive has no pixels, and one that it drives those of its rows
+  pub no-segment : segments ≤ n → segmentPixels c ram n .pixels ≡ 0
   unfolding segmentPixels
-  no-ram h = rw (ne-eqb (length ram) 320 h)
+  no-segment past = rw (le-leb segments n past, or-true (not (eqb (length ram) 320)))
 
-  pub no-segment : segments ≤ n → segmentPixels c ram n ≡ 0
+  pub rows-packed : Fit c ram → n < segments → segmentPixels c ram n .pixels ≡ segmentRows c ram n
   unfolding segmentPixels
-  no-segment h = rw (le-ltb n segments h, and-false (eqb (length ram) 320))
+  rows-packed fit driven = rw (eq-eqb (length ram) 320 (fit .bytes), lt-leb segments n driven, fit .range)
 
-  module _ (bytes : length ram ≡ 320) (driven : n < segments) where
-    pub rows-packed : segmentPixels c ram n ≡ packedPixels (pixel c ram n) 0 32
-    unfolding segmentPixels
-    rows-packed = rw (eq-eqb (length ram) 320 bytes, lt-ltb n segments driven)
-
-    segment-shown : segmentPixels c ram n
-        ≡ if (not (c .«display_on»)) 0 (if (c .«static_on») 0xFFFFFFFF (if (c .«duty_32») (shown 32) (shown 16)))
-    unfolding pixel
-    segment-shown =
-        rows-packed
-        ∙ switched (not (c .«display_on»)) (c .«static_on») (c .«duty_32») (λ row. lineBit ram (columnOf c n) (c .«start_line» + row))
-        ∙ rw (from-start 32, from-start 16)
-
-    pub segment-dark : not (c .«display_on») ≡ true → segmentPixels c ram n ≡ 0
-    segment-dark off = segment-shown ∙ rw off
-
-    module _ (on : not (c .«display_on») ≡ false) where
-      pub segment-lit : c .«static_on» ≡ true → segmentPixels c ram n ≡ 0xFFFFFFFF
-      segment-lit static = segment-shown ∙ rw (on, static)
-
-      module _ (ram-shown : c .«static_on» ≡ false) where
-        pub segment-lines : c .«duty_32» ≡ true → segmentPixels c ram n ≡ turned ram (columnOf c n) (c .«start_line»)
-        segment-lines duty = segment-shown ∙ rw (on, ram-shown, duty) (lines-turned ram (columnOf c n) (c .«start_line»))
-
-        pub segment-upper : c .«duty_32» ≡ false → segmentPixels c ram n ≡ turned ram (columnOf c n) (c .«start_line») % 2 ^ 16
-        segment-upper duty = segment-shown ∙ rw (on, ram-shown, duty) (upper-lines ram (columnOf c n) (c .«start_line»))
+pub segment-numbers : SegmentNumbers
+unfolding segmentPixels
+segment-numbers c ram n =
+    rw (table-as (λ (s : Segment). verdict (s .number) 0) (segmentTable c ram n) (λ number at. refl) refl) (exactly-when (segmentTable c ram n) (verdict 0 0))

@@ -5,7 +5,7 @@ use mathlib.Core.Path.{_≡_}
 use mathlib.Core.Bool.{not, _&&_}
 use mathlib.Core.List.{List}
 use lib.Dec.{leb}
-use Rattle.sed1520.specs.Panel.{chipAt, ramAt}
+use Rattle.panel.specs.Panel.{chipAt, ramAt}
 use Rattle.sed1520.specs.declared.registers.Chip.{Chip}
 use Rattle.basics.proofs.Tests.{when}
 use Rattle.frame.specs.Frame.{segments, pixel, frameByte}

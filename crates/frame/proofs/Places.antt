@@ -15,7 +15,7 @@ use Rattle.basics.proofs.Filling.{Begun, begun-width, begun-part}
 use Rattle.basics.proofs.Parts.{rest}
 use Rattle.basics.proofs.Lists.{joined-next, joined-length, joined-at, tabulated-length, tabulated-at}
 use Rattle.basics.proofs.Tests.{tested, when}
-use Rattle.sed1520.specs.Panel.{Panel, chipAt, ramAt}
+use Rattle.panel.specs.Panel.{Panel, chipAt, ramAt}
 use Rattle.sed1520.specs.declared.registers.Chip.{Chip}
 use Rattle.frame.specs.Frame.{segments, columns, frameBytes, frameByte, halfRow, frameRow, frameOf, framePlace}
 use Rattle.frame.specs.Laws.{PlaceLaws}

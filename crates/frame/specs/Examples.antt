@@ -5,7 +5,7 @@ use mathlib.Core.Bool.{true}
 use mathlib.Core.List.{List}
 use lib.ListN.{getD}
 use Rattle.sed1520.specs.Memory.{byteAt}
-use Rattle.sed1520.specs.Panel.{Panel, chipAt}
+use Rattle.panel.specs.Panel.{Panel, chipAt}
 use Rattle.sed1520.specs.Examples.{commanded, ChipExamples}
 use Rattle.frame.specs.Frame.{segments, columnOf, pixel, frameOf, framePlace}
 

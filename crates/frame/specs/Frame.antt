@@ -1,18 +1,20 @@
 -- The frame: what the 122 by 32 panel (document 01: the glass) shows, each half driven by its own chip.
 use Prim.Native.Nat.{ℕ, zero, suc, _+_, _-_, _*_, _/_, _%_, _^_}
 use mathlib.Core.Bool.{Bool, not, _&&_, _||_}
-use mathlib.Core.List.{List, _++_}
-use lib.Dec.{ltb, leb, eqb}
+use mathlib.Core.List.{List, [], _∷_, _++_}
+use lib.Dec.{leb, eqb}
 use lib.ListN.{length}
 use Rattle.basics.specs.Choice.{if}
 use Rattle.basics.specs.Halves.{startOf}
 use Rattle.basics.specs.Lists.{joined, tabulated}
-use Rattle.sed1520.specs.Chip.{inRange}
+use Rattle.basics.specs.Table.{Cause, cause, leftThenRight, unlessRefused}
+use Rattle.basics.specs.Verdict.{verdict, Result, result}
+use Rattle.basics.specs.declared.verdict.Verdict.{Verdict}
+use Rattle.sed1520.specs.Chip.{outOfRange}
 use Rattle.sed1520.specs.Memory.{byteAt}
-use Rattle.sed1520.specs.Panel.{Panel, ramAt}
-use Rattle.sed1520.specs.Verdict.{verdict, unless, Filled, filledBy}
 use Rattle.sed1520.specs.declared.registers.Chip.{Chip}
-use Rattle.sed1520.specs.declared.verdict.Verdict.{Verdict}
+use Rattle.panel.specs.Panel.{Panel, ramAt}
+use Rattle.frame.specs.declared.segment.Segment.{Segment}
 
 -- the segments that a chip drives
 abbrev pub segments : ℕ
@@ -51,9 +53,18 @@ packedPixels f row (suc n) = f row + 2 * packedPixels f (row + 1) n
 unfoldable pub frameByte : Chip → List ℕ → ℕ → ℕ → ℕ
 frameByte c ram n r = packedPixels (pixel c ram n) (8 * r) 8
 
--- the 32 pixels of segment n as one number, row 0 lowest; 0 past the last segment, and over other than 320 bytes
-unfoldable pub segmentPixels : Chip → List ℕ → ℕ → ℕ
-segmentPixels c ram n = if (eqb (length ram) 320 && ltb n segments) (packedPixels (pixel c ram n) 0 32) 0
+-- the 32 pixels of segment n as one number, row 0 lowest
+abbrev pub segmentRows : Chip → List ℕ → ℕ → ℕ
+segmentRows c ram n = packedPixels (pixel c ram n) 0 32
+
+-- the numbers of a segment asked alone: 1 for RAM that is not 320 bytes or a segment that the chip does not drive, 2 for a chip out of range
+abbrev pub segmentTable : Chip → List ℕ → ℕ → List Cause
+segmentTable c ram n = cause 1 0 (not (eqb (length ram) 320) || leb segments n) ∷ cause 2 0 (outOfRange c) ∷ []
+
+-- a segment asked alone: its number, and its 32 pixels, which are 0 where it is refused
+unfoldable pub segmentPixels : Chip → List ℕ → ℕ → Segment
+segmentPixels c ram n =
+    unlessRefused (segmentTable c ram n) (λ number at. record { number = number; pixels = 0 }) (record { number = 0; pixels = segmentRows c ram n })
 
 -- a half of a given width in the eight rows from 8 r: the bytes of its segments in rising order
 abbrev pub halfRow : ℕ → Chip → List ℕ → ℕ → List ℕ
@@ -75,8 +86,12 @@ framePlace chip n r = startOf segments chip + n + columns * r
 unfoldable pub frameSizesWrong : ℕ → ℕ → Bool
 frameSizesWrong ram frame = not (eqb ram 640) || not (eqb frame frameBytes)
 
--- numbers 1 and 2 (left before right), then the frame, with its length as place
-unfoldable pub framed : Panel → List ℕ → Filled Verdict
+-- the numbers of a frame, by whether the left chip and the right one are out of range and by the lengths of image and buffer
+abbrev pub frameTable : Bool → Bool → ℕ → ℕ → List Cause
+frameTable left right ram frame = cause 1 0 (frameSizesWrong ram frame) ∷ leftThenRight 2 left right []
+
+-- the frame's call: numbers 1 and 2, which leave the buffer as it came, else the frame in the buffer, with its length as place
+unfoldable pub framed : Panel → List ℕ → Result Verdict (List ℕ)
 framed p buffer =
-    filledBy (frameSizesWrong (length (p .ram)) (length buffer))
-    (unless (λ c. not (inRange c)) 2 (p .left) (p .right) (verdict 0 frameBytes)) (frameOf p) buffer
+    unlessRefused (frameTable (outOfRange (p .left)) (outOfRange (p .right)) (length (p .ram)) (length buffer))
+    (λ n at. result (verdict n at) buffer) (result (verdict 0 frameBytes) (frameOf p))

@@ -7,13 +7,15 @@ use mathlib.Core.List.{List}
 use mathlib.Core.Logic.{_⊎_}
 use lib.Dec.{leb}
 use lib.ListN.{length, getD}
-use Rattle.sed1520.specs.Laws.{shownBy, Whole}
+use Rattle.basics.specs.Table.{ExactlyWhen}
+use Rattle.basics.specs.Verdict.{verdict, result}
+use Rattle.sed1520.specs.Chip.{columnStop, outOfRange}
+use Rattle.sed1520.specs.Laws.{shownBy}
 use Rattle.sed1520.specs.Memory.{byteAt}
-use Rattle.sed1520.specs.Panel.{Panel, chipAt, ramAt}
-use Rattle.sed1520.specs.Verdict.{verdict, filled}
-use Rattle.sed1520.specs.Chip.{columnStop}
 use Rattle.sed1520.specs.declared.registers.Chip.{Chip}
-use Rattle.frame.specs.Frame.{segments, columns, frameBytes, columnOf, pixel, frameByte, frameOf, framePlace, framed}
+use Rattle.panel.specs.Panel.{Panel, chipAt, ramAt, Whole}
+use Rattle.frame.specs.Frame.{segments, columns, frameBytes, columnOf, pixel, frameByte, frameOf, framePlace}
+use Rattle.frame.specs.Frame.{segmentTable, segmentPixels, frameTable, framed}
 
 -- byte x + 122 r, bit b, is the pixel at column x and row 8 r + b: that of segment x mod 61 of chip x / 61, over its 320 bytes
 abbrev pub EveryPixelPlaced : Type 0
@@ -24,7 +26,19 @@ EveryPixelPlaced =
 -- chips in range over 640 bytes, a buffer of 488: number 0, the frame's length as place, and the frame in the buffer, whatever that held
 abbrev pub EveryFrameGiven : Type 0
 EveryFrameGiven =
-    (p : Panel) (buffer : List ℕ) → Whole p → length buffer ≡ frameBytes → framed p buffer ≡ filled (verdict 0 frameBytes) (frameOf p)
+    (p : Panel) (buffer : List ℕ) → Whole p → length buffer ≡ frameBytes → framed p buffer ≡ result (verdict 0 frameBytes) (frameOf p)
+
+-- the frame's call gives each number exactly when its line says so, else number 0 with the frame's length as place
+abbrev pub FrameNumbers : Type 0
+FrameNumbers =
+    (p : Panel) (buffer : List ℕ)
+    → ExactlyWhen (frameTable (outOfRange (p .left)) (outOfRange (p .right)) (length (p .ram)) (length buffer))
+    (verdict 0 frameBytes) (framed p buffer .answer)
+
+-- a segment asked alone is given each number exactly when its line says so, else number 0
+abbrev pub SegmentNumbers : Type 0
+SegmentNumbers =
+    (c : Chip) (ram : List ℕ) (n : ℕ) → ExactlyWhen (segmentTable c ram n) (verdict 0 0) (verdict (segmentPixels c ram n .number) 0)
 
 -- whether a chip shows its RAM in a row
 abbrev pub showsRam : Chip → ℕ → Bool

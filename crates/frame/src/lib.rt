@@ -10,13 +10,13 @@ ghost use lib.ListN.{length};
 ghost use Rattle.frame.specs.Frame.{frameBytes, columnOf, lineBit, packedPixels, frameByte, halfRow};
 ghost use Rattle.frame.specs.Frame.{frameOf, frameSizesWrong, framed};
 ghost use Rattle.sed1520.specs.Chip.{columnStop};
-ghost use Rattle.sed1520.specs.Laws.{Fit, Whole};
-ghost use Rattle.sed1520.specs.Panel.{panelOf};
-ghost use Rattle.sed1520.specs.Verdict.{filled};
-use sed1520::bus::IMAGE_BYTES;
+ghost use Rattle.sed1520.specs.Laws.{Fit};
+ghost use Rattle.basics.specs.Verdict.{result};
+ghost use Rattle.panel.specs.Panel.{panelOf, Whole};
+use basics::verdict::Verdict;
+use panel::chips::IMAGE_BYTES;
 use sed1520::memory::index;
 use sed1520::registers::Chip;
-use sed1520::verdict::Verdict;
 
 // A frame: four bytes of eight rows in each of 122 columns.
 pub const FRAME_BYTES: usize = Chip::PANEL_WIDTH * 4;
@@ -120,15 +120,17 @@ fn sizes_wrong(ram: usize, frame: usize) -> bool
 
 // The frame that two chips and their image show, into a buffer of 488 bytes.
 pub fn frame(left: Chip, right: Chip, ram: &[u8], frame: &mut [u8]) -> Verdict
-    ensures { λ r. ⌜ filled r (now (frame .exit)) ≡ framed (panelOf left right (now (ram .entry))) (now (frame .entry)) ⌝ }
+    ensures { λ r. ⌜ result r (now (frame .exit)) ≡ framed (panelOf left right (now (ram .entry))) (now (frame .entry)) ⌝ }
 {
     if sizes_wrong(ram.len(), frame.len()) {
         return Verdict::new(1, 0);
     }
-    let done = Verdict::new(0, FRAME_BYTES as u64);
-    let verdict = Verdict::unless(!left.in_range(), !right.in_range(), 2, done);
-    if verdict.number == 0 {
-        fill(left, right, ram, frame);
+    if !left.in_range() {
+        return Verdict::new(2, 0);
     }
-    verdict
+    if !right.in_range() {
+        return Verdict::new(2, 1);
+    }
+    fill(left, right, ram, frame);
+    Verdict::new(0, FRAME_BYTES as u64)
 }

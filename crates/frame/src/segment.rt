@@ -2,7 +2,7 @@
 ghost use Prim.Native.Nat.{_+_, _*_, _/_, _%_, _^_, _<_};
 ghost use mathlib.Core.Path.{_≡_};
 ghost use lib.ListN.{length};
-ghost use Rattle.frame.specs.Frame.{lineBit, packedPixels, segmentPixels};
+ghost use Rattle.frame.specs.Frame.{segments, lineBit, packedPixels, segmentRows, segmentPixels};
 ghost use Rattle.sed1520.specs.Chip.{columnStop};
 use crate::column_of;
 use sed1520::memory::index;
@@ -39,16 +39,12 @@ fn turned(lines: u32, line: u8) -> u32
     ((twice >> (line % 32)) % 0x1_0000_0000) as u32
 }
 
-// The 32 pixels of a segment, row 0 lowest; 0 past the last segment, and over other than 320 bytes.
-pub fn segment_pixels(chip: Chip, ram: &[u8], n: usize) -> u32
-    ensures { λ r. ⌜ r ≡ segmentPixels chip (now (ram .entry)) n ⌝ }
+// The 32 pixels of a segment that the chip drives, row 0 lowest.
+fn segment_rows(chip: Chip, ram: &[u8], n: usize) -> u32
+    requires { ⌜ length (now ram) ≡ 320 ⌝ }
+    requires { ⌜ n < segments ⌝ }
+    ensures { λ r. ⌜ r ≡ segmentRows chip (now (ram .entry)) n ⌝ }
 {
-    if ram.len() != Chip::RAM_WIDTH {
-        return 0;
-    }
-    if Chip::SEGMENTS <= n {
-        return 0;
-    }
     if !chip.display_on {
         return 0;
     }
@@ -60,5 +56,38 @@ pub fn segment_pixels(chip: Chip, ram: &[u8], n: usize) -> u32
         shown
     } else {
         shown % 0x1_0000
+    }
+}
+
+// What is given back of a segment: 0 with its 32 pixels, row 0 lowest, or the number of a refusal with none.
+pub struct Segment {
+    pub number: u8,
+    pub pixels: u32,
+}
+
+// The pixels of a segment: number 1 for RAM that is not 320 bytes or a segment that the chip does not drive, 2 for a chip out
+// of range.
+pub fn segment_pixels(chip: Chip, ram: &[u8], n: usize) -> Segment
+    ensures { λ r. ⌜ r ≡ segmentPixels chip (now (ram .entry)) n ⌝ }
+{
+    let refused = Segment {
+        number: 1,
+        pixels: 0,
+    };
+    if ram.len() != Chip::RAM_WIDTH {
+        return refused;
+    }
+    if Chip::SEGMENTS <= n {
+        return refused;
+    }
+    if !chip.in_range() {
+        return Segment {
+            number: 2,
+            pixels: 0,
+        };
+    }
+    Segment {
+        number: 0,
+        pixels: segment_rows(chip, ram, n),
     }
 }

@@ -1,45 +1,51 @@
 -- Numbers 1 and 2 of the calls that fill a buffer, from those of their callees.
 use Prim.Native.Nat.{ℕ}
-use mathlib.Core.Path.{_≡_, _∙_}
-use mathlib.Core.Bool.{Bool, true, false}
+use mathlib.Core.Path.{_≡_, refl, ap, sym, _∙_}
+use mathlib.Core.Bool.{Bool, true, false, not}
 use mathlib.Core.List.{List}
 use mathlib.Core.Logic.{⊎-elim}
 use lib.Dec.{eqb}
-use lib.ListN.{length}
-use borrow.Author.Tests.{eqb-true, eqb-false}
+use lib.ListN.{length, take, drop}
+use borrow.Author.Tests.{eqb-true, eqb-false, not-true, not-false}
+use Rattle.basics.specs.Table.{First}
+use Rattle.basics.specs.Verdict.{Result}
 use Rattle.sed1520.specs.Chip.{inRange}
+use Rattle.sed1520.specs.ChipRecord.{recordRight}
 use Rattle.sed1520.specs.declared.registers.Chip.{Chip}
-use Rattle.sed1520.proofs.RecordsUndo.{left-passes, right-passes}
-use Rattle.basics.proofs.Tests.{tested}
-use Rattle.sed1520.specs.Panel.{panelOf}
-use Rattle.sed1520.specs.Verdict.{Filled}
+use Rattle.panel.specs.Panel.{panelOf}
+use Rattle.panel.proofs.TwoChips.{left-passes, right-passes}
 use Rattle.frame.specs.Frame.{framed}
-use Rattle.repaint.specs.Repaint.{chipsVerdict, repaintOf}
+use Rattle.repaint.specs.Repaint.{repaintOf}
 use Rattle.visible.specs.Changes.{changesOf}
 use Rattle.pedralume.specs.Call.{packedWith, onChips, packedFilled}
-use Rattle.pedralume.specs.Refusals.{BufferRefused, CallsRefuse}
+use Rattle.pedralume.specs.Refusals.{bytesTable, CallsRefuse}
 use Rattle.pedralume.proofs.OnChips.{wrong-length, on-chips}
 
 -- a call whose callee gives number 1 for its sizes, then number 2 for the left chip, then for the right
-module _ (wrong : Bool) (chips buffer : List ℕ) (call : Chip → Chip → Filled ℕ)
+module _ (wrong : Bool) (chips buffer : List ℕ) (call : Chip → Chip → Result ℕ (List ℕ))
     (sizes : (l r : Chip) → wrong ≡ true → call l r ≡ packedWith buffer 1 0)
     (left : (l r : Chip) → wrong ≡ false → inRange l ≡ false → call l r ≡ packedWith buffer 2 0)
     (right : (l r : Chip) → wrong ≡ false → inRange l ≡ true → inRange r ≡ false → call l r ≡ packedWith buffer 2 1) where
-  refuses : BufferRefused wrong chips buffer (onChips chips buffer call)
-  refuses =
-      record {
-        chips-wrong = wrong-length chips buffer call;
-        sizes-wrong =
-            λ e. ⊎-elim
-            (λ h. on-chips chips buffer call (eqb-true (length chips) 24 h) ∙ sizes _ _ e)
-            (λ h. wrong-length chips buffer call (eqb-false (length chips) 24 h))
-            (tested (eqb (length chips) 24));
-        left-wrong = λ h s l. on-chips chips buffer call h ∙ left _ _ s (left-passes chips h false l);
-        right-wrong = λ h s l r. on-chips chips buffer call h ∙ right _ _ s (left-passes chips h true l) (right-passes chips h false r);
-      }
+  refuses : (n at : ℕ) → First (bytesTable wrong chips) n at → onChips chips buffer call ≡ packedWith buffer n at
+  refuses n at =
+      ⊎-elim
+      (λ one. rw (← one .1 .0, ← one .1 .1) (wrong-length chips buffer call (eqb-false (length chips) 24 (not-true _ (one .0)))))
+      (λ past. let h = eqb-true (length chips) 24 (not-false _ (past .0)) in
+      ⊎-elim
+      (λ size. rw (← size .1 .0, ← size .1 .1) (on-chips chips buffer call h ∙ sizes _ _ (size .0)))
+      (λ sized. ⊎-elim
+      (λ two. rw (← two .1 .0, ← two .1 .1) (on-chips chips buffer call h ∙ left _ _ (sized .0) (left-passes chips h false (not-true _ (two .0)))))
+      (λ first. ⊎-elim
+      (λ two. rw (← two .1 .0, ← two .1 .1)
+      (on-chips chips buffer call h
+      ∙ right _ _ (sized .0) (left-passes chips h true (not-false _ (first .0))) (right-passes chips h false (not-true _ (two .0)))))
+      (λ none. absurd (none .1))
+      (first .1))
+      (sized .1))
+      (past .1))
 
 pub calls-refuse : CallsRefuse
-unfolding framed repaintOf chipsVerdict changesOf
+unfolding framed repaintOf changesOf
 calls-refuse =
     record {
       frame =

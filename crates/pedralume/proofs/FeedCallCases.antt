@@ -7,17 +7,17 @@ use lib.ListN.{length, take, drop, length-drop, drop-of-length-le}
 use lib.Seq.{take-at, drop-at}
 use borrow.Author.Tests.{eq-eqb, ne-eqb}
 use Rattle.basics.proofs.Parts.{rest}
-use Rattle.sed1520.specs.ChipRecord.{chipsIn}
-use Rattle.sed1520.specs.Verdict.{Filled, filled}
-use Rattle.sed1520.specs.declared.chip_record.Chips.{Chips}
-use Rattle.trace.specs.Replay.{InPlace}
+use Rattle.panel.specs.Chips.{chipsIn}
+use Rattle.basics.specs.Verdict.{Result, result}
+use Rattle.panel.specs.declared.chips.Chips.{Chips}
+use Rattle.trace.specs.Replay.{InPlace, inPlace}
 use Rattle.trace.specs.Feed.{openOf, closeOf}
 use Rattle.trace.specs.FeedInPlace.{feedIn, partInPlace}
 use Rattle.trace.specs.declared.progress.Progress.{Progress}
 use Rattle.trace.specs.declared.feed.Fed.{Fed}
 use Rattle.trace.specs.declared.feed.FedInPlace.{FedInPlace}
 use Rattle.pedralume.specs.FeedRecord.{progressIn, progressBytes}
-use Rattle.pedralume.specs.FeedCall.{feedPacked, toldPacked, keptOr, openCall, PartLeft, partLeft, partCall, closeCall}
+use Rattle.pedralume.specs.FeedCall.{feedPacked, toldPacked, keptOr, openCall, partCall, closeCall}
 
 -- the bytes behind the chips, as a slice lends them, and put back
 abbrev pub behind : List ℕ → List ℕ
@@ -30,39 +30,39 @@ pub put-behind : (whole back : List ℕ) → putBehind whole back ≡ take 24 wh
 put-behind whole back = rw (drop-of-length-le (drop 24 whole) {i = length whole - 24} (simp length-drop (omega arith)), append-nil)
 
 module _ (feed ram part answers : List ℕ) where
-  pub part-length : (length feed ≡ 48 → ⊥) → partLeft (feedPacked 1 0) feed ram answers ≡ partCall feed ram part answers
+  pub part-length : (length feed ≡ 48 → ⊥) → inPlace (feedPacked 1 0) feed ram answers ≡ partCall feed ram part answers
   unfolding partCall
   part-length h = rw (ne-eqb (length feed) 48 h)
 
   -- what a part leaves, from what it gave over the chips
-  abbrev pub partLeftOf : Progress → InPlace FedInPlace → PartLeft
-  partLeftOf t i =
+  abbrev pub inPlaceOf : Progress → InPlace FedInPlace → InPlace ℕ
+  inPlaceOf t i =
       let r = i .answer .ran in
-      partLeft (toldPacked r) (i .chips ++ keptOr (t .ending) (r .number) (drop 24 feed) (i .answer .progress)) (i .ram) (i .answers)
+      inPlace (toldPacked r) (i .lent .state ++ keptOr (t .ending) (r .number) (drop 24 feed) (i .answer .progress)) (i .lent .ram) (i .lent .answers)
 
   module _ (h : length feed ≡ 48) (t : Progress) where
     pub part-whole : t ≡ progressIn (drop 24 feed) → (i : InPlace FedInPlace) → i ≡ partInPlace (take 24 feed) t ram part answers
-        → partLeftOf t i ≡ partCall feed ram part answers
+        → inPlaceOf t i ≡ partCall feed ram part answers
     unfolding partCall
     part-whole read i went = rw (eq-eqb (length feed) 48 h, went, read)
 
     pub part-done : t ≡ progressIn (behind feed) → (i : InPlace FedInPlace) → i ≡ partInPlace (take 24 feed) t ram part answers
-        → length (i .chips) ≡ 24 → let whole = i .chips ++ drop 24 feed in (back : List ℕ)
+        → length (i .lent .state) ≡ 24 → let whole = i .lent .state ++ drop 24 feed in (back : List ℕ)
         → back ≡ keptOr (t .ending) (i .answer .ran .number) (behind whole) (i .answer .progress)
-        → partLeft (toldPacked (i .answer .ran)) (putBehind whole back) (i .ram) (i .answers) ≡ partCall feed ram part answers
+        → inPlace (toldPacked (i .answer .ran)) (putBehind whole back) (i .lent .ram) (i .lent .answers) ≡ partCall feed ram part answers
     part-done read i went chips back written =
-        let whole = i .chips ++ drop 24 feed in
-        rw (put-behind whole back, take-at (i .chips) (drop 24 feed) 24 chips, written, rest whole 24, drop-at (i .chips) (drop 24 feed) 24 chips)
+        let whole = i .lent .state ++ drop 24 feed in
+        rw (put-behind whole back, take-at (i .lent .state) (drop 24 feed) 24 chips, written, rest whole 24, drop-at (i .lent .state) (drop 24 feed) 24 chips)
         (part-whole (read ∙ ap progressIn (rest feed 24)) i went)
 
 module _ (feed : List ℕ) where
-  pub close-length : (length feed ≡ 48 → ⊥) → filled (feedPacked 1 0) feed ≡ closeCall feed
+  pub close-length : (length feed ≡ 48 → ⊥) → result (feedPacked 1 0) feed ≡ closeCall feed
   unfolding closeCall
   close-length h = rw (ne-eqb (length feed) 48 h)
 
   -- what a close leaves, from what it gave
-  abbrev pub closeLeftOf : Progress → Fed → Filled ℕ
-  closeLeftOf t o = filled (toldPacked (o .ran)) (take 24 feed ++ keptOr (t .ending) (o .ran .number) (drop 24 feed) (o .feed .progress))
+  abbrev pub closeLeftOf : Progress → Fed → Result ℕ (List ℕ)
+  closeLeftOf t o = result (toldPacked (o .ran)) (take 24 feed ++ keptOr (t .ending) (o .ran .number) (drop 24 feed) (o .feed .progress))
 
   module _ (h : length feed ≡ 48) (t : Progress) where
     pub close-whole : t ≡ progressIn (drop 24 feed) → (o : Fed) → o ≡ closeOf (feedIn (take 24 feed) t) → closeLeftOf t o ≡ closeCall feed
@@ -71,23 +71,23 @@ module _ (feed : List ℕ) where
 
     pub close-done : t ≡ progressIn (behind feed) → (o : Fed) → o ≡ closeOf (feedIn (take 24 feed) t) → (back : List ℕ)
         → back ≡ keptOr (t .ending) (o .ran .number) (behind feed) (o .feed .progress)
-        → filled (toldPacked (o .ran)) (putBehind feed back) ≡ closeCall feed
+        → result (toldPacked (o .ran)) (putBehind feed back) ≡ closeCall feed
     close-done read o closed back written =
         rw (put-behind feed back, written, rest feed 24) (close-whole (read ∙ ap progressIn (rest feed 24)) o closed)
 
 module _ (feed chips : List ℕ) where
-  pub open-feed : (length feed ≡ 48 → ⊥) → filled (feedPacked 1 0) feed ≡ openCall feed chips
+  pub open-feed : (length feed ≡ 48 → ⊥) → result (feedPacked 1 0) feed ≡ openCall feed chips
   unfolding openCall
   open-feed h = rw (ne-eqb (length feed) 48 h)
 
   module _ (h : length feed ≡ 48) where
-    pub open-chips : (length chips ≡ 24 → ⊥) → filled (feedPacked 1 0) feed ≡ openCall feed chips
+    pub open-chips : (length chips ≡ 24 → ⊥) → result (feedPacked 1 0) feed ≡ openCall feed chips
     unfolding openCall
     open-chips k = rw (eq-eqb (length feed) 48 h, ne-eqb (length chips) 24 k)
 
     pub open-done : length chips ≡ 24 → (both : Chips) → both ≡ chipsIn chips → (o : Fed) → o ≡ openOf (both .left) (both .right)
         → (copied : List ℕ) → copied ≡ chips → let whole = copied ++ drop 24 feed in (back : List ℕ) → back ≡ progressBytes (o .feed .progress)
-        → filled (toldPacked (o .ran)) (putBehind whole back) ≡ openCall feed chips
+        → result (toldPacked (o .ran)) (putBehind whole back) ≡ openCall feed chips
     unfolding openCall
     open-done k both read o opened copied same back written =
         let whole = copied ++ drop 24 feed in

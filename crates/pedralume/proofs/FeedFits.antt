@@ -1,21 +1,20 @@
 -- The progress after a call of the feed fits its bytes again.
-use Prim.Native.Nat.{ℕ, _+_, _*_, _/_, _<_, _≤_}
+use Prim.Native.Nat.{ℕ, _+_, _*_, _/_, _<_}
 use native.Mathlib.Omega.{arith}
 use mathlib.Core.Path.{_≡_, refl}
 use mathlib.Core.Bool.{true}
 use mathlib.Core.List.{List, []}
 use lib.Dec.{eqb}
 use lib.ListN.{length}
-use borrow.Author.Tests.{eqb-true}
+use Rattle.basics.specs.Choice.{if}
+use Rattle.basics.proofs.Table.{each-line}
 use Rattle.basics.proofs.Tests.{when}
-use Rattle.sed1520.specs.Laws.{Whole}
-use Rattle.sed1520.specs.Panel.{panelOf}
-use Rattle.sed1520.specs.Promises.{isRecordNumber}
 use Rattle.sed1520.specs.declared.registers.Chip.{Chip}
-use Rattle.sed1520.specs.declared.verdict.Verdict.{Verdict}
-use Rattle.trace.specs.Replay.{ranOf, ranAs, ended, endedBytes}
-use Rattle.trace.specs.Feed.{begun, joinedTo, cutOff, feedOf, stateVerdict, partVerdict, PartOutcome, countedOn, movedOn, stoppedWith}
-use Rattle.trace.specs.Feed.{openOf, openPart, partOf, openClose, closeOf}
+use Rattle.panel.specs.Panel.{panelOf, Whole}
+use Rattle.panel.specs.Promises.{isRecordNumber}
+use Rattle.trace.specs.Replay.{ranOf, ended, endedBytes}
+use Rattle.trace.specs.Feed.{begun, joinedTo, cutOff, feedOf, feedTable, partTable, PartOutcome, fedWith, notTaken, tookPart, countedOn, movedOn}
+use Rattle.trace.specs.Feed.{stoppedWith, openOf, openPart, partOf, openClose, closeOf}
 use Rattle.trace.specs.declared.Ran.{Ran}
 use Rattle.trace.specs.declared.progress.Ending.{Ending}
 use Rattle.trace.specs.declared.progress.Ending.the-variants.{Open, Stopped}
@@ -23,7 +22,7 @@ use Rattle.trace.specs.declared.progress.Progress.{Progress}
 use Rattle.trace.specs.declared.feed.Feed.{Feed}
 use Rattle.trace.specs.declared.feed.Fed.{Fed}
 use Rattle.trace.proofs.Bounds.{ran-few}
-use Rattle.trace.proofs.FeedCases.{PartRight, part-right, each-state, state-place, by-ending}
+use Rattle.trace.proofs.FeedCases.{PartRight, part-right, state-two, state-low, by-ending}
 use Rattle.trace.proofs.KeptOver.{joined-length, cut-off-length}
 use Rattle.trace.proofs.RunNumbers.{run-number, low-number}
 use Rattle.pedralume.specs.FeedRecord.{numberByte, placeOf}
@@ -32,7 +31,7 @@ use Rattle.pedralume.proofs.BytesFit.{no-byte, byte-more, append-fit, t
 
 -- the number of a part's records, run on a whole panel
 module _ (f : Feed) (ram part answers : List ℕ) (right : PartRight f (length ram) (length part) (length answers)) where
-  pub part-number : isRecordNumber (endedBytes (panelOf (f .left) (f .right) ram) (joinedTo (f .progress) part) answers .number) ≡ true
+  pub part-number : isRecordNumber (endedBytes (panelOf (f .left) (f .right) ram) (joinedTo (f .progress) part) answers .answer .number) ≡ true
   unfolding ended
   part-number =
       let whole : Whole (panelOf (f .left) (f .right) ram) =
@@ -42,8 +41,8 @@ module _ (f : Feed) (ram part answers : List ℕ) (right : PartRight f (length r
 abbrev FedFits : Fed → Type 0
 FedFits o = Fits (o .feed .progress)
 
-state-number : (f : Feed) → stateVerdict f .number ≤ 2
-state-number f = each-state (λ (v : Verdict). v .number ≤ 2) f (omega arith) (omega arith) (omega arith) (omega arith)
+abbrev PartFits : PartOutcome → Type 0
+PartFits o = Fits (o .lent .state .progress)
 
 -- counts that fit, with bytes to keep over and an ending that fit
 module _ (t : Progress) (ran : Ran) (records : t .records + ran .place < 4294967296) (compared : t .compared + ran .compared < 4294967296)
@@ -77,33 +76,32 @@ joined-fit t part fits fit =
     append-fit _ part (take-fit (t .kept) _ kept) fit
 
 module _ (f : Feed) (fits : Fits (f .progress)) where
-  pub part-fits : (ram part answers : List ℕ) → BytesFit part → FedFits (partOf f ram part answers .fed)
+  pub part-fits : (ram part answers : List ℕ) → BytesFit part → Fits (partOf f ram part answers .lent .state .progress)
   unfolding partOf openPart
   part-fits ram part answers fit =
       let t = f .progress in
       let bytes = joinedTo t part in
-      by-ending (λ (o : PartOutcome). FedFits (o .fed)) (t .ending) (λ n at e. fits)
-      (λ _. when (λ (o : PartOutcome). FedFits (o .fed)) (eqb (partVerdict f (length ram) (length part) (length answers) .number) 0)
-      (λ z. let right = part-right f (length ram) (length part) (length answers) (eqb-true _ 0 z) in
+      let o = endedBytes (panelOf (f .left) (f .right) ram) bytes answers in
+      by-ending PartFits (t .ending) (λ n at e. fits)
+      (λ _. each-line (notTaken f ram answers) (tookPart f bytes o) PartFits (partTable f (length ram) (length part) (length answers))
+      (λ n at _. fits)
+      (λ none. let right = part-right f (length ram) (length part) (length answers) none in
       let few = ran-few (panelOf (f .left) (f .right) ram) bytes answers refl in
       let state = right .state in
       let size = joined-length t (state .few) part in
-      let n = low-number (endedBytes (panelOf (f .left) (f .right) ram) bytes answers .number) (part-number f ram part answers right) in
-      let o = endedBytes (panelOf (f .left) (f .right) ram) bytes answers in
-      moved-fits t (ranAs o)
+      let n = low-number (o .answer .number) (part-number f ram part answers right) in
+      moved-fits t (o .answer)
       (omega (arith, few .place-few, size, right .countable))
       (omega (arith, few .compared-few, size, right .countable, state .compared))
       (omega (arith, few .differing-few, size, right .countable, state .compared, state .differing))
-      bytes (joined-fit t part fits fit) (omega (arith, n)))
-      (λ _. fits))
+      bytes (joined-fit t part fits fit) (omega (arith, n))))
 
   pub close-fits : FedFits (closeOf f)
   unfolding closeOf openClose
   close-fits =
       by-ending FedFits (f .progress .ending) (λ n at e. fits)
-      (λ _. when FedFits (eqb (stateVerdict f .number) 0)
-      (λ _. stopped-fits (when (λ (n : ℕ). n < 256) (eqb (f .progress .kept) 0) (λ _. omega arith) (λ _. omega arith)))
-      (λ _. fits))
+      (λ _. each-line (fedWith f) (stoppedWith f (if (eqb (f .progress .kept) 0) 0 3)) FedFits (feedTable f) (λ n at _. fits)
+      (λ _. stopped-fits (when (λ (n : ℕ). n < 256) (eqb (f .progress .kept) 0) (λ _. omega arith) (λ _. omega arith))))
     where
       stopped-fits : {n : ℕ} → n < 256 → FedFits (stoppedWith f n)
       stopped-fits h =
@@ -127,6 +125,6 @@ pub open-fits : (left right : Chip) → FedFits (openOf left right)
 unfolding openOf
 open-fits left right =
     let f = feedOf left right (begun Open) in
-    let v = stateVerdict f in
-    when FedFits (eqb (v .number) 0) (λ _. begun-fits Open (omega arith) (omega arith))
-    (λ _. begun-fits (Stopped (v .number) (v .place)) (omega (arith, state-number f)) (omega (arith, state-place f)))
+    each-line (λ n at. fedWith (feedOf left right (begun (Stopped n at))) n at) (fedWith f 0 0) FedFits (feedTable f)
+    (λ n at first. begun-fits (Stopped n at) (omega (arith, state-two f n at first)) (omega (arith, state-low f n at first)))
+    (λ _. begun-fits Open (omega arith) (omega arith))

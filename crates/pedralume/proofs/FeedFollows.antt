@@ -5,28 +5,30 @@ use mathlib.Core.Bool.{Bool, true, false, _&&_, true≢false}
 use mathlib.Core.List.{List}
 use lib.Dec.{eqb}
 use lib.ListN.{length, take, drop}
-use borrow.Author.Tests.{eqb-true, eq-eqb}
+use borrow.Author.Tests.{eq-eqb}
 use Rattle.basics.specs.Choice.{if}
+use Rattle.basics.specs.Verdict.{result}
+use Rattle.basics.proofs.Table.{each-line}
 use Rattle.basics.proofs.Tests.{when}
-use Rattle.sed1520.specs.ChipRecord.{recordRight, chipsBytes, chipsIn}
-use Rattle.sed1520.specs.Verdict.{filled}
+use Rattle.sed1520.specs.ChipRecord.{recordRight}
 use Rattle.sed1520.specs.declared.registers.Chip.{Chip}
-use Rattle.sed1520.proofs.RecordsUndo.{two-length, two-there}
-use Rattle.sed1520.specs.Panel.{panelOf}
-use Rattle.trace.specs.Replay.{InPlace, endedBytes}
-use Rattle.trace.specs.Feed.{begun, joinedTo, feedOf, stateVerdict, partVerdict, PartOutcome}
+use Rattle.panel.specs.Chips.{chipsBytes, chipsIn}
+use Rattle.panel.specs.Panel.{panelOf}
+use Rattle.panel.proofs.TwoChips.{two-length, two-there}
+use Rattle.trace.specs.Replay.{InPlace, inPlace, endedBytes}
+use Rattle.trace.specs.Feed.{begun, joinedTo, feedOf, feedTable, partTable, PartOutcome, fedBy, fedWith, notTaken, tookPart, stoppedWith}
 use Rattle.trace.specs.Feed.{openOf, openPart, partOf, openClose, closeOf}
 use Rattle.trace.specs.FeedInPlace.{feedIn, asRecords, partInPlace}
-use Rattle.trace.specs.declared.progress.Ending.the-variants.{Open}
+use Rattle.trace.specs.declared.progress.Ending.the-variants.{Open, Stopped}
 use Rattle.trace.specs.declared.progress.Progress.{Progress}
 use Rattle.trace.specs.declared.feed.Feed.{Feed}
 use Rattle.trace.specs.declared.feed.Fed.{Fed}
 use Rattle.trace.specs.declared.feed.FedInPlace.{FedInPlace}
 use Rattle.trace.proofs.FeedCases.{part-right, by-ending}
-use Rattle.trace.proofs.PartCases.{by-value}
+use Rattle.trace.proofs.PartCases.{on-bytes, by-value}
 use Rattle.trace.proofs.RunNumbers.{own-number}
 use Rattle.pedralume.specs.FeedRecord.{progressBytes, feedBytes, progressIn}
-use Rattle.pedralume.specs.FeedCall.{toldPacked, stays, openCall, partLeft, partCall, closeCall}
+use Rattle.pedralume.specs.FeedCall.{toldPacked, stays, openCall, partCall, closeCall}
 use Rattle.pedralume.specs.FeedPromises.{FeedCallsFollow}
 use Rattle.pedralume.proofs.FeedCallCases.{part-whole, close-whole}
 use Rattle.pedralume.proofs.FeedFits.{part-number, open-fits, part-fits, close-fits}
@@ -40,23 +42,23 @@ module _ (f : Feed) where
   abbrev Kept : Fed → Type 0
   Kept o = stays (f .progress .ending) (o .ran .number) ≡ true → o .feed .progress ≡ f .progress
 
-  part-kept : (ram part answers : List ℕ) → Kept (partOf f ram part answers .fed)
+  part-kept : (ram part answers : List ℕ) → Kept (fedBy (partOf f ram part answers))
   unfolding partOf openPart
   part-kept ram part answers =
-      by-ending (λ (o : PartOutcome). Kept (o .fed)) (f .progress .ending) (λ n at e _. refl)
-      (λ e. when (λ (o : PartOutcome). Kept (o .fed)) (eqb (partVerdict f (length ram) (length part) (length answers) .number) 0)
-      (λ z s. let right = part-right f (length ram) (length part) (length answers) (eqb-true _ 0 z) in
-      let n = endedBytes (panelOf (f .left) (f .right) ram) (joinedTo (f .progress) part) answers .number in
-      absurd (true≢false (sym (rw e at s) ∙ own-number n (part-number f ram part answers right))))
-      (λ _ _. refl))
+      let bytes = joinedTo (f .progress) part in
+      let ran = endedBytes (panelOf (f .left) (f .right) ram) bytes answers in
+      by-ending (λ (o : PartOutcome). Kept (fedBy o)) (f .progress .ending) (λ n at e _. refl)
+      (λ e. each-line (notTaken f ram answers) (tookPart f bytes ran) (λ (o : PartOutcome). Kept (fedBy o))
+      (partTable f (length ram) (length part) (length answers)) (λ n at _ _. refl)
+      (λ none s. let right = part-right f (length ram) (length part) (length answers) none in
+      absurd (true≢false (sym (rw e at s) ∙ own-number (ran .answer .number) (part-number f ram part answers right)))))
 
   close-kept : Kept (closeOf f)
   unfolding closeOf openClose
   close-kept =
       by-ending Kept (f .progress .ending) (λ n at e _. refl)
-      (λ e. when Kept (eqb (stateVerdict f .number) 0)
-      (λ _ s. absurd (true≢false (sym (rw e at s) ∙ when (λ (n : ℕ). stays Open n ≡ false) (eqb (f .progress .kept) 0) (λ _. refl) (λ _. refl))))
-      (λ _ _. refl))
+      (λ e. each-line (fedWith f) (stoppedWith f (if (eqb (f .progress .kept) 0) 0 3)) Kept (feedTable f) (λ n at _ _. refl)
+      (λ _ s. absurd (true≢false (sym (rw e at s) ∙ when (λ (n : ℕ). stays Open n ≡ false) (eqb (f .progress .kept) 0) (λ _. refl) (λ _. refl)))))
 
 -- a close leaves the chips as they came
 abbrev SameChips : Feed → Fed → Type 0
@@ -65,7 +67,8 @@ SameChips f o = chipsBytes (f .left) (f .right) ≡ chipsBytes (o .feed .left) (
 close-chips : (f : Feed) → SameChips f (closeOf f)
 unfolding closeOf openClose
 close-chips f =
-    by-ending (SameChips f) (f .progress .ending) (λ n at e. refl) (λ e. when (SameChips f) (eqb (stateVerdict f .number) 0) (λ _. refl) (λ _. refl))
+    by-ending (SameChips f) (f .progress .ending) (λ n at e. refl)
+    (λ e. each-line (fedWith f) (stoppedWith f (if (eqb (f .progress .kept) 0) 0 3)) (SameChips f) (feedTable f) (λ n at _. refl) (λ _. refl))
 
 -- the bytes behind the chips, kept or written
 written : (t next : Progress) (s : Bool) → (s ≡ true → next ≡ t) → if s (progressBytes t) (progressBytes next) ≡ progressBytes next
@@ -87,31 +90,30 @@ module _ (f : Feed) (ram part answers : List ℕ) where
   i = partInPlace (chipsBytes (f .left) (f .right)) (f .progress) ram part answers
 
   as-records : i ≡ asRecords (chipsBytes (f .left) (f .right)) o
-  unfolding partInPlace
-  as-records = rw (eq-eqb (length (chipsBytes (f .left) (f .right))) 24 (two-length (f .left) (f .right))) (rw (two-there (f .left) (f .right)))
+  as-records = on-bytes (f .left) (f .right) (f .progress) ram part answers
 
-  chips-own : Own (i .chips)
+  chips-own : Own (i .lent .state)
   chips-own =
       rw as-records
       (when Own (recordRight (take 12 (chipsBytes (f .left) (f .right))) && recordRight (drop 12 (chipsBytes (f .left) (f .right))))
-      (λ _. own (o .fed .feed .left) (o .fed .feed .right)) (λ _. own (f .left) (f .right)))
+      (λ _. own (o .lent .state .left) (o .lent .state .right)) (λ _. own (f .left) (f .right)))
 
-  chips-after : i .chips ≡ chipsBytes (o .fed .feed .left) (o .fed .feed .right)
+  chips-after : i .lent .state ≡ chipsBytes (o .lent .state .left) (o .lent .state .right)
   chips-after =
       sym chips-own
-      ∙ ap (λ (p : PartOutcome). chipsBytes (p .fed .feed .left) (p .fed .feed .right))
+      ∙ ap (λ (p : PartOutcome). chipsBytes (p .lent .state .left) (p .lent .state .right))
       (by-value (f .left) (f .right) (f .progress) ram part answers _ refl i refl)
 
-  part-follows : partCall (feedBytes f) ram part answers ≡ partLeft (toldPacked (o .fed .ran)) (feedBytes (o .fed .feed)) (o .ram) (o .answers)
+  part-follows : partCall (feedBytes f) ram part answers ≡ inPlace (toldPacked (o .answer)) (feedBytes (o .lent .state)) (o .lent .ram) (o .lent .answers)
   part-follows =
       let e : i ≡ partInPlace (take 24 (feedBytes f)) (f .progress) ram part answers = rw (front f) in
       let done = part-whole (feedBytes f) ram part answers (feed-length f) (f .progress) (read f) i e in
-      let next = o .fed .feed .progress in
-      let kept = written (f .progress) next (stays (f .progress .ending) (o .fed .ran .number)) (part-kept f ram part answers) in
+      let next = o .lent .state .progress in
+      let kept = written (f .progress) next (stays (f .progress .ending) (o .answer .number)) (part-kept f ram part answers) in
       sym done ∙ rw (chips-after, as-records, behind f, kept)
 
 module _ (f : Feed) where
-  close-follows : let o = closeOf f in closeCall (feedBytes f) ≡ filled (toldPacked (o .ran)) (feedBytes (o .feed))
+  close-follows : let o = closeOf f in closeCall (feedBytes f) ≡ result (toldPacked (o .ran)) (feedBytes (o .feed))
   close-follows =
       let o = closeOf f in
       let e : o ≡ closeOf (feedIn (take 24 (feedBytes f)) (f .progress)) = rw (front f) (rw (two-there (f .left) (f .right))) in
@@ -123,10 +125,10 @@ open-chips : (left right : Chip) → let after = openOf left right .feed in chip
 unfolding openOf
 open-chips left right =
     let f = feedOf left right (begun Open) in
-    when (SameChips f) (eqb (stateVerdict f .number) 0) (λ _. refl) (λ _. refl)
+    each-line (λ n at. fedWith (feedOf left right (begun (Stopped n at))) n at) (fedWith f 0 0) (SameChips f) (feedTable f) (λ n at _. refl) (λ _. refl)
 
 open-follows : (feed : List ℕ) (left right : Chip) → length feed ≡ 48 → let o = openOf left right in
-    openCall feed (chipsBytes left right) ≡ filled (toldPacked (o .ran)) (feedBytes (o .feed))
+    openCall feed (chipsBytes left right) ≡ result (toldPacked (o .ran)) (feedBytes (o .feed))
 unfolding openCall
 open-follows feed left right h =
     rw (eq-eqb (length feed) 48 h, eq-eqb (length (chipsBytes left right)) 24 (two-length left right), two-there left right)

@@ -1,19 +1,19 @@
 -- What 24 bytes say fits again, and so does the place that a call of the feed tells.
-use Prim.Native.Nat.{ℕ, _+_, _-_, _<_, _≤_}
+use Prim.Native.Nat.{ℕ, _+_, _-_, _<_}
 use native.Mathlib.Omega.{arith}
 use mathlib.Core.Path.{_≡_, refl, ap}
 use mathlib.Core.Bool.{not}
 use mathlib.Core.List.{List}
 use lib.Dec.{eqb}
 use lib.ListN.{length, getD, take, drop}
-use borrow.Author.Tests.{eqb-true}
+use Rattle.basics.specs.Choice.{if}
 use Rattle.basics.proofs.Parts.{rest}
+use Rattle.basics.proofs.Table.{each-line}
 use Rattle.basics.proofs.Tests.{when}
-use Rattle.sed1520.specs.Panel.{panelOf}
 use Rattle.sed1520.specs.declared.registers.Chip.{Chip}
-use Rattle.sed1520.specs.declared.verdict.Verdict.{Verdict}
-use Rattle.trace.specs.Replay.{InPlace}
-use Rattle.trace.specs.Feed.{begun, joinedTo, feedOf, stateVerdict, partVerdict, PartOutcome, movedOn}
+use Rattle.panel.specs.Panel.{panelOf}
+use Rattle.trace.specs.Replay.{InPlace, endedBytes}
+use Rattle.trace.specs.Feed.{begun, joinedTo, feedOf, feedTable, partTable, PartOutcome, fedWith, notTaken, tookPart, movedOn, stoppedWith}
 use Rattle.trace.specs.Feed.{openOf, openPart, partOf, openClose, closeOf}
 use Rattle.trace.specs.FeedInPlace.{feedIn, partInPlace}
 use Rattle.trace.specs.declared.Ran.{Ran}
@@ -24,7 +24,7 @@ use Rattle.trace.specs.declared.feed.Feed.{Feed}
 use Rattle.trace.specs.declared.feed.Fed.{Fed}
 use Rattle.trace.specs.declared.feed.FedInPlace.{FedInPlace}
 use Rattle.trace.proofs.Bounds.{ran-few}
-use Rattle.trace.proofs.FeedCases.{part-right, each-part, state-place, by-ending}
+use Rattle.trace.proofs.FeedCases.{part-right, part-low, state-low, by-ending, goes-on}
 use Rattle.trace.proofs.KeptOver.{joined-length}
 use Rattle.pedralume.specs.FeedRecord.{numberByte, placeOf, wordAt, marksRight, progressIn}
 use Rattle.pedralume.specs.FeedPromises.{BytesFit, Fits}
@@ -53,12 +53,6 @@ module _ (b : List ℕ) (fit : BytesFit b) where
 pub read-fits : (feed : List ℕ) → BytesFit feed → (t : Progress) → t ≡ progressIn (take (length feed - 24) (drop 24 feed)) → Fits t
 read-fits feed fit t e = rw (e, rest feed 24) (in-fits (drop 24 feed) (drop-fit 24 feed fit))
 
-abbrev Low : Verdict → Type 0
-Low v = v .place ≤ 3
-
-verdict-place : (f : Feed) (ram part answers : ℕ) → Low (partVerdict f ram part answers)
-verdict-place f ram part answers = each-part Low f ram part answers (omega arith) (omega arith) (state-place f)
-
 -- a count gone on by a run
 pub moved-records : (t : Progress) (bytes : List ℕ) (ran : Ran) → movedOn t bytes ran .records ≡ t .records + ran .place
 unfolding movedOn
@@ -71,7 +65,7 @@ abbrev FedTold : Fed → Type 0
 FedTold o = Told (o .ran)
 
 abbrev PartTold : PartOutcome → Type 0
-PartTold o = FedTold (o .fed)
+PartTold o = Told (o .answer)
 
 -- a stopped feed's place
 stopped-place : (t : Progress) → Fits t → (n at : ℕ) → t .ending ≡ Stopped n at → at < 4294967296
@@ -85,27 +79,34 @@ module _ (f : Feed) (fits : Fits (f .progress)) where
       let p = panelOf (f .left) (f .right) ram in
       let bytes = joinedTo t part in
       by-ending PartTold (t .ending) (stopped-place t fits)
-      (λ _. when PartTold (eqb (partVerdict f (length ram) (length part) (length answers) .number) 0)
-      (λ z. let right = part-right f (length ram) (length part) (length answers) (eqb-true _ 0 z) in
+      (λ _. each-line (notTaken f ram answers) (tookPart f bytes (endedBytes p bytes answers)) PartTold
+      (partTable f (length ram) (length part) (length answers))
+      (λ n at first. omega (arith, part-low f (length ram) (length part) (length answers) n at first))
+      (λ none. let right = part-right f (length ram) (length part) (length answers) none in
       let few = ran-few p bytes answers refl in
-      rw (moved-records t bytes) (omega (arith, few .place-few, joined-length t (right .state .few) part, right .countable)))
-      (λ _. omega (arith, verdict-place f (length ram) (length part) (length answers))))
+      rw (moved-records t bytes) (omega (arith, few .place-few, joined-length t (right .state .few) part, right .countable))))
 
   pub close-place : FedTold (closeOf f)
   unfolding closeOf openClose
   close-place =
       by-ending FedTold (f .progress .ending) (stopped-place (f .progress) fits)
-      (λ _. when FedTold (eqb (stateVerdict f .number) 0) (λ _. fits .records) (λ _. omega (arith, state-place f)))
+      (λ _. each-line (fedWith f) (stoppedWith f (if (eqb (f .progress .kept) 0) 0 3)) FedTold (feedTable f)
+      (λ n at first. omega (arith, state-low f n at first)) (λ _. fits .records))
 
 pub open-place : (left right : Chip) → FedTold (openOf left right)
 unfolding openOf
 open-place left right =
     let f = feedOf left right (begun Open) in
-    when FedTold (eqb (stateVerdict f .number) 0) (λ _. omega arith) (λ _. omega (arith, state-place f))
+    each-line (λ n at. fedWith (feedOf left right (begun (Stopped n at))) n at) (fedWith f 0 0) FedTold (feedTable f)
+    (λ n at first. omega (arith, state-low f n at first)) (λ _. omega arith)
 
 pub in-place-place : (chips ram part answers : List ℕ) (t : Progress) → Fits t → (i : InPlace FedInPlace) → i ≡ partInPlace chips t ram part answers
     → Told (i .answer .ran)
 unfolding partInPlace
 in-place-place chips ram part answers t fits i e =
-    rw e (when (λ (o : InPlace FedInPlace). Told (o .answer .ran)) (not (eqb (length chips) 24)) (λ _. omega arith)
-    (λ _. part-place (feedIn chips t) fits ram part answers))
+    rw e (by-ending InPlaceTold (t .ending) (stopped-place t fits)
+    (λ is-open. when InPlaceTold (not (eqb (length chips) 24)) (λ _. omega arith)
+    (λ _. rw (goes-on (feedIn chips t) ram part answers is-open) at (part-place (feedIn chips t) fits ram part answers))))
+  where
+    InPlaceTold : InPlace FedInPlace → Type 0
+    InPlaceTold o = Told (o .answer .ran)

@@ -4,8 +4,8 @@ use native.Mathlib.Omega.{arith}
 use mathlib.Core.Path.{_≡_, refl, _∙_}
 use lib.ListN.{length, take, drop, length-append}
 use lib.Seq.{take-at, drop-at}
-use Rattle.sed1520.specs.ChipRecord.{chipsBytes}
-use Rattle.sed1520.proofs.RecordsUndo.{two-length, two-there}
+use Rattle.panel.specs.Chips.{chipsBytes}
+use Rattle.panel.proofs.TwoChips.{two-length, two-there}
 use Rattle.trace.specs.FeedInPlace.{feedIn}
 use Rattle.trace.specs.declared.progress.Ending.{Ending}
 use Rattle.trace.specs.declared.progress.Ending.the-variants.{Open, Stopped}

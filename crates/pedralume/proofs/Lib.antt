@@ -11,3 +11,4 @@ pub mod FeedUndo
 pub mod BytesFit
 pub mod FeedFits
 pub mod FeedFollows
+pub mod AsReplay

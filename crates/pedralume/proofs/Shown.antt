@@ -3,9 +3,9 @@ use mathlib.Core.Path.{ap, _∙_}
 use lib.ListN.{take}
 use Rattle.basics.specs.Run.{Run}
 use Rattle.sed1520.specs.Cycle.{Reply}
-use Rattle.sed1520.specs.Panel.{Panel, after}
+use Rattle.panel.specs.Panel.{Panel, after}
 use Rattle.sed1520.specs.Records.{wholeRecords}
-use Rattle.sed1520.proofs.PanelLaws.{after-whole}
+use Rattle.panel.proofs.PanelLaws.{after-whole}
 use Rattle.trace.proofs.AfterEach.{after-each-record}
 use Rattle.frame.specs.Frame.{framed}
 use Rattle.frame.proofs.FrameCases.{every-frame-given}

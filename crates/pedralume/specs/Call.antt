@@ -5,12 +5,12 @@ use mathlib.Core.List.{List}
 use lib.Dec.{eqb}
 use lib.ListN.{length}
 use Rattle.basics.specs.Choice.{if}
-use Rattle.sed1520.specs.ChipRecord.{chipsIn}
+use Rattle.panel.specs.Chips.{chipsIn}
 use Rattle.sed1520.specs.declared.registers.Chip.{Chip}
-use Rattle.sed1520.specs.Panel.{panelOf}
-use Rattle.sed1520.specs.Verdict.{Filled, filled}
-use Rattle.sed1520.specs.declared.verdict.Verdict.{Verdict}
-use Rattle.trace.specs.Replay.{InPlace, inPlace, replayInPlace}
+use Rattle.panel.specs.Panel.{panelOf}
+use Rattle.basics.specs.Verdict.{Result, result}
+use Rattle.basics.specs.declared.verdict.Verdict.{Verdict}
+use Rattle.trace.specs.Replay.{InPlace, replayInPlace}
 use Rattle.trace.specs.declared.Ran.{Ran}
 use Rattle.frame.specs.Frame.{framed}
 use Rattle.repaint.specs.Repaint.{repaintOf}
@@ -22,33 +22,32 @@ packed number place compared differing = number + 256 * place + 2 ^ 24 * compare
 
 -- a replay over chip records, its number, place and counts packed
 abbrev pub packedReplay : InPlace Ran → InPlace ℕ
-packedReplay i =
-    let a = i .answer in inPlace (packed (a .number) (a .place) (a .compared) (a .differing)) (i .chips) (i .ram) (i .answers)
+packedReplay i = let a = i .answer in result (packed (a .number) (a .place) (a .compared) (a .differing)) (i .lent)
 
 -- the replay over the chip records
 abbrev pub replayCall : List ℕ → List ℕ → List ℕ → List ℕ → InPlace ℕ
 replayCall chips ram trace answers = packedReplay (replayInPlace chips ram trace answers)
 
 -- what a call that fills one buffer gives back, number and place packed, both counts 0; and the buffer
-abbrev pub packedWith : List ℕ → ℕ → ℕ → Filled ℕ
-packedWith buffer number place = filled (packed number place 0 0) buffer
+abbrev pub packedWith : List ℕ → ℕ → ℕ → Result ℕ (List ℕ)
+packedWith buffer number place = result (packed number place 0 0) buffer
 
--- a filled buffer, the number and the place packed
-abbrev pub packedFilled : Filled Verdict → Filled ℕ
-packedFilled o = packedWith (o .buffer) (o .verdict .number) (o .verdict .place)
+-- a result buffer, the number and the place packed
+abbrev pub packedFilled : Result Verdict (List ℕ) → Result ℕ (List ℕ)
+packedFilled o = packedWith (o .lent) (o .answer .number) (o .answer .place)
 
 -- number 1 where the chip records are not 24 bytes, then the call on their chips, with its own number 1 before number 2
-unfoldable pub onChips : List ℕ → List ℕ → (Chip → Chip → Filled ℕ) → Filled ℕ
+unfoldable pub onChips : List ℕ → List ℕ → (Chip → Chip → Result ℕ (List ℕ)) → Result ℕ (List ℕ)
 onChips chips buffer call = if (not (eqb (length chips) 24)) (packedWith buffer 1 0) (call (chipsIn chips .left) (chipsIn chips .right))
 
 -- the frame of the chips
-abbrev pub frameCall : List ℕ → List ℕ → List ℕ → Filled ℕ
+abbrev pub frameCall : List ℕ → List ℕ → List ℕ → Result ℕ (List ℕ)
 frameCall chips ram buffer = onChips chips buffer (λ left right. packedFilled (framed (panelOf left right ram) buffer))
 
 -- the repaint of the chips
-abbrev pub repaintCall : List ℕ → List ℕ → List ℕ → Filled ℕ
+abbrev pub repaintCall : List ℕ → List ℕ → List ℕ → Result ℕ (List ℕ)
 repaintCall chips picture buffer = onChips chips buffer (λ left right. packedFilled (repaintOf left right picture buffer))
 
 -- the entries of the records that changed what the panel of the chips shows
-abbrev pub changesCall : List ℕ → List ℕ → List ℕ → List ℕ → Filled ℕ
+abbrev pub changesCall : List ℕ → List ℕ → List ℕ → List ℕ → Result ℕ (List ℕ)
 changesCall chips ram trace buffer = onChips chips buffer (λ left right. packedFilled (changesOf (panelOf left right ram) trace buffer))

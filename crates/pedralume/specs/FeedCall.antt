@@ -5,11 +5,12 @@ use mathlib.Core.List.{List, _++_}
 use lib.Dec.{eqb}
 use lib.ListN.{length, take, drop}
 use Rattle.basics.specs.Choice.{if}
-use Rattle.sed1520.specs.ChipRecord.{chipsIn}
-use Rattle.sed1520.specs.Verdict.{Filled, filled}
+use Rattle.panel.specs.Chips.{chipsIn}
+use Rattle.basics.specs.Verdict.{Result, result}
 use Rattle.trace.specs.Feed.{openOf, closeOf}
 use Rattle.trace.specs.FeedPromises.{refusesPart}
 use Rattle.trace.specs.FeedInPlace.{feedIn, partInPlace}
+use Rattle.trace.specs.Replay.{InPlace, inPlace}
 use Rattle.trace.specs.declared.Ran.{Ran}
 use Rattle.trace.specs.declared.progress.Ending.{Ending}
 use Rattle.trace.specs.declared.progress.Ending.the-variants.{Open, Stopped}
@@ -34,36 +35,25 @@ abbrev pub keptOr : Ending → ℕ → List ℕ → Progress → List ℕ
 keptOr e n old t = if (stays e n) old (progressBytes t)
 
 -- number 1 for lengths that are wrong; else all 48 bytes are written, the chips as given
-unfoldable pub openCall : List ℕ → List ℕ → Filled ℕ
+unfoldable pub openCall : List ℕ → List ℕ → Result ℕ (List ℕ)
 openCall feed chips =
     let o = openOf (chipsIn chips .left) (chipsIn chips .right) in
-    if (not (eqb (length feed) 48) || not (eqb (length chips) 24)) (filled (feedPacked 1 0) feed)
-    (filled (toldPacked (o .ran)) (chips ++ progressBytes (o .feed .progress)))
-
--- what a part leaves in the feed record, the image and the answer buffer
-pub record PartLeft : Type 0 where
-  pub answer : ℕ
-  pub feed : List ℕ
-  pub ram : List ℕ
-  pub answers : List ℕ
-
--- all of it as one value
-abbrev pub partLeft : ℕ → List ℕ → List ℕ → List ℕ → PartLeft
-partLeft a feed ram answers = record { answer = a; feed = feed; ram = ram; answers = answers }
+    if (not (eqb (length feed) 48) || not (eqb (length chips) 24)) (result (feedPacked 1 0) feed)
+    (result (toldPacked (o .ran)) (chips ++ progressBytes (o .feed .progress)))
 
 -- number 1 for a record that is not 48 bytes; else the part given to the feed that lies there
-unfoldable pub partCall : List ℕ → List ℕ → List ℕ → List ℕ → PartLeft
+unfoldable pub partCall : List ℕ → List ℕ → List ℕ → List ℕ → InPlace ℕ
 partCall feed ram part answers =
     let t = progressIn (drop 24 feed) in
     let o = partInPlace (take 24 feed) t ram part answers in
     let r = o .answer .ran in
-    if (not (eqb (length feed) 48)) (partLeft (feedPacked 1 0) feed ram answers)
-    (partLeft (toldPacked r) (o .chips ++ keptOr (t .ending) (r .number) (drop 24 feed) (o .answer .progress)) (o .ram) (o .answers))
+    if (not (eqb (length feed) 48)) (inPlace (feedPacked 1 0) feed ram answers)
+    (inPlace (toldPacked r) (o .lent .state ++ keptOr (t .ending) (r .number) (drop 24 feed) (o .answer .progress)) (o .lent .ram) (o .lent .answers))
 
 -- number 1 for a record that is not 48 bytes; else the feed that lies there is closed
-unfoldable pub closeCall : List ℕ → Filled ℕ
+unfoldable pub closeCall : List ℕ → Result ℕ (List ℕ)
 closeCall feed =
     let t = progressIn (drop 24 feed) in
     let o = closeOf (feedIn (take 24 feed) t) in
-    if (not (eqb (length feed) 48)) (filled (feedPacked 1 0) feed)
-    (filled (toldPacked (o .ran)) (take 24 feed ++ keptOr (t .ending) (o .ran .number) (drop 24 feed) (o .feed .progress)))
+    if (not (eqb (length feed) 48)) (result (feedPacked 1 0) feed)
+    (result (toldPacked (o .ran)) (take 24 feed ++ keptOr (t .ending) (o .ran .number) (drop 24 feed) (o .feed .progress)))

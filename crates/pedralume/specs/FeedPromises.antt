@@ -2,15 +2,16 @@
 use Prim.Native.Nat.{ℕ, _/_, _%_, _<_}
 use mathlib.Core.Path.{_≡_}
 use mathlib.Core.Bool.{true, false, not, _||_}
-use mathlib.Core.List.{List, _++_}
+use mathlib.Core.List.{List, [], _∷_, _++_}
 use lib.Dec.{ltb, eqb}
 use lib.ListN.{length, getD, take, drop}
 use Rattle.basics.specs.Choice.{if}
-use Rattle.sed1520.specs.ChipRecord.{recordRight, chipsBytes}
-use Rattle.sed1520.specs.Verdict.{filled, verdict}
-use Rattle.sed1520.specs.declared.verdict.Verdict.{Verdict}
+use Rattle.sed1520.specs.ChipRecord.{recordRight}
+use Rattle.panel.specs.Chips.{chipsBytes}
+use Rattle.basics.specs.Table.{Cause, cause, leftThenRight, First, NoneHolds}
+use Rattle.basics.specs.Verdict.{result}
 use Rattle.sed1520.specs.declared.registers.Chip.{Chip}
-use Rattle.trace.specs.Replay.{sizesWrong}
+use Rattle.trace.specs.Replay.{inPlace, sizesWrong}
 use Rattle.trace.specs.Feed.{begun, completedBy, tooMany, openOf, partOf, closeOf}
 use Rattle.trace.specs.FeedInPlace.{feedIn}
 use Rattle.trace.specs.FeedPromises.{refusesPart}
@@ -18,7 +19,7 @@ use Rattle.trace.specs.declared.progress.Ending.the-variants.{Stopped}
 use Rattle.trace.specs.declared.progress.Progress.{Progress}
 use Rattle.trace.specs.declared.feed.Feed.{Feed}
 use Rattle.pedralume.specs.FeedRecord.{wordAt, numberByte, placeOf, progressBytes, feedBytes, marksRight, progressIn}
-use Rattle.pedralume.specs.FeedCall.{feedPacked, toldPacked, openCall, partLeft, partCall, closeCall}
+use Rattle.pedralume.specs.FeedCall.{feedPacked, toldPacked, openCall, partCall, closeCall}
 
 -- each element of a list fits a byte
 pub record BytesFit (b : List ℕ) : Type 0 where
@@ -41,7 +42,7 @@ pub record FeedUnpacks : Type 0 where
   pub number-of : (n at : ℕ) → n < 256 → feedPacked n at % 256 ≡ n
   pub place-of : (n at : ℕ) → n < 256 → feedPacked n at / 256 ≡ at
   pub open-place : (left right : Chip) → openOf left right .ran .place < 4294967296
-  pub part-place : (f : Feed) (ram part answers : List ℕ) → Fits (f .progress) → partOf f ram part answers .fed .ran .place < 4294967296
+  pub part-place : (f : Feed) (ram part answers : List ℕ) → Fits (f .progress) → partOf f ram part answers .answer .place < 4294967296
   pub close-place : (f : Feed) → Fits (f .progress) → closeOf f .ran .place < 4294967296
 
 -- a progress is read back from its 24 bytes, which are bytes where its fields fit; 24 bytes with right marks and the two 0 are those of the progress
@@ -58,58 +59,55 @@ pub record FeedRecordsUndo : Type 0 where
 -- each call on a feed's record gives back and leaves what the feed by value does, whose progress fits again
 pub record FeedCallsFollow : Type 0 where
   pub opened : (feed : List ℕ) (left right : Chip) → length feed ≡ 48 → let o = openOf left right in
-      openCall feed (chipsBytes left right) ≡ filled (toldPacked (o .ran)) (feedBytes (o .feed))
+      openCall feed (chipsBytes left right) ≡ result (toldPacked (o .ran)) (feedBytes (o .feed))
   pub opened-fits : (left right : Chip) → Fits (openOf left right .feed .progress)
   pub part : (f : Feed) (ram part answers : List ℕ) → let o = partOf f ram part answers in
-      partCall (feedBytes f) ram part answers ≡ partLeft (toldPacked (o .fed .ran)) (feedBytes (o .fed .feed)) (o .ram) (o .answers)
+      partCall (feedBytes f) ram part answers ≡ inPlace (toldPacked (o .answer)) (feedBytes (o .lent .state)) (o .lent .ram) (o .lent .answers)
   pub part-fits : (f : Feed) (ram part answers : List ℕ) → Fits (f .progress) → BytesFit part
-      → Fits (partOf f ram part answers .fed .feed .progress)
-  pub closed : (f : Feed) → let o = closeOf f in closeCall (feedBytes f) ≡ filled (toldPacked (o .ran)) (feedBytes (o .feed))
+      → Fits (partOf f ram part answers .lent .state .progress)
+  pub closed : (f : Feed) → let o = closeOf f in closeCall (feedBytes f) ≡ result (toldPacked (o .ran)) (feedBytes (o .feed))
   pub closed-fits : (f : Feed) → Fits (f .progress) → Fits (closeOf f .feed .progress)
 
 -- a record whose stopped byte is 1 repeats its number and place, and every buffer stays as it came, whatever they hold
 pub record StoppedRecordRepeats : Type 0 where
   pub part : (feed ram part answers : List ℕ) → length feed ≡ 48 → getD feed 28 0 ≡ 1
-      → partCall feed ram part answers ≡ partLeft (feedPacked (getD feed 29 0) (wordAt feed 32)) feed ram answers
+      → partCall feed ram part answers ≡ inPlace (feedPacked (getD feed 29 0) (wordAt feed 32)) feed ram answers
   pub closed : (feed : List ℕ) → length feed ≡ 48 → getD feed 28 0 ≡ 1
-      → closeCall feed ≡ filled (feedPacked (getD feed 29 0) (wordAt feed 32)) feed
+      → closeCall feed ≡ result (feedPacked (getD feed 29 0) (wordAt feed 32)) feed
 
--- number 2 by the bytes as they lie, or 0: the left chip record, the right one, then place 3: over 3 bytes kept, compared above records, differing
+-- number 2 by the bytes as they lie: the left chip's bytes, the right one's, then place 3: over 3 bytes kept, compared above records, differing
 -- above compared, marks of neither a stopped feed nor an open one
-abbrev pub recordVerdict : List ℕ → Verdict
-recordVerdict feed =
+abbrev pub recordTable : List ℕ → List Cause
+recordTable feed =
     let b = drop 24 feed in
-    if (not (recordRight (take 12 (take 24 feed)))) (verdict 2 0)
-    (if (not (recordRight (drop 12 (take 24 feed)))) (verdict 2 1)
-    (if (ltb 3 (getD b 0 0) || (ltb (wordAt b 12) (wordAt b 16) || (ltb (wordAt b 16) (wordAt b 20) || not (marksRight b)))) (verdict 2 3)
-    (verdict 0 0)))
+    leftThenRight 2 (not (recordRight (take 12 (take 24 feed)))) (not (recordRight (drop 12 (take 24 feed))))
+    (cause 2 3 (ltb 3 (getD b 0 0) || (ltb (wordAt b 12) (wordAt b 16) || (ltb (wordAt b 16) (wordAt b 20) || not (marksRight b)))) ∷ [])
 
 -- numbers 1 and 13 of a part before it
-abbrev pub partCallVerdict : List ℕ → ℕ → ℕ → ℕ → Verdict
-partCallVerdict feed ram part answers =
+abbrev pub partCallTable : List ℕ → ℕ → ℕ → ℕ → List Cause
+partCallTable feed ram part answers =
     let b = drop 24 feed in
     let more = completedBy (getD b 0 0) part in
-    if (sizesWrong part more ram answers) (verdict 1 0) (if (tooMany (wordAt b 12) more) (verdict 13 0) (recordVerdict feed))
+    cause 1 0 (sizesWrong part more ram answers) ∷ cause 13 0 (tooMany (wordAt b 12) more) ∷ recordTable feed
 
--- what each call refuses by its lengths, and a part and a close where the record is not stopped: every buffer stays as it came; an opening's number 2
--- by the chip records, which stops the feed; and where none of these refuses: a part then tells none of 1, 2 and 13, a close 0 or 3
+-- what each call refuses by its lengths, and a part and a close by their tables where the feed is not stopped: every buffer stays as it came; an
+-- opening's number 2 by the chips' bytes, which stops the feed; and where no line refuses: a part then gives none of 1, 2 and 13, a close 0 or 3
 pub record FeedCallsRefuse : Type 0 where
-  pub open-feed : (feed chips : List ℕ) → (length feed ≡ 48 → ⊥) → openCall feed chips ≡ filled (feedPacked 1 0) feed
-  pub open-chips : (feed chips : List ℕ) → (length chips ≡ 24 → ⊥) → openCall feed chips ≡ filled (feedPacked 1 0) feed
-  pub open-left : (feed chips : List ℕ) → length feed ≡ 48 → length chips ≡ 24 → recordRight (take 12 chips) ≡ false
-      → openCall feed chips ≡ filled (feedPacked 2 0) (chips ++ progressBytes (begun (Stopped 2 0)))
-  pub open-right : (feed chips : List ℕ) → length feed ≡ 48 → length chips ≡ 24 → recordRight (take 12 chips) ≡ true
-      → recordRight (drop 12 chips) ≡ false → openCall feed chips ≡ filled (feedPacked 2 1) (chips ++ progressBytes (begun (Stopped 2 1)))
+  pub open-feed : (feed chips : List ℕ) → (length feed ≡ 48 → ⊥) → openCall feed chips ≡ result (feedPacked 1 0) feed
+  pub open-chips : (feed chips : List ℕ) → (length chips ≡ 24 → ⊥) → openCall feed chips ≡ result (feedPacked 1 0) feed
+  pub open-state : (feed chips : List ℕ) → length feed ≡ 48 → length chips ≡ 24 → (n at : ℕ)
+      → First (leftThenRight 2 (not (recordRight (take 12 chips))) (not (recordRight (drop 12 chips))) []) n at
+      → openCall feed chips ≡ result (feedPacked n at) (chips ++ progressBytes (begun (Stopped n at)))
   pub part-feed : (feed ram part answers : List ℕ) → (length feed ≡ 48 → ⊥)
-      → partCall feed ram part answers ≡ partLeft (feedPacked 1 0) feed ram answers
-  pub part : (feed ram part answers : List ℕ) → length feed ≡ 48 → (getD feed 28 0 ≡ 1 → ⊥)
-      → let v = partCallVerdict feed (length ram) (length part) (length answers) in
-      (v .number ≡ 0 → ⊥) → partCall feed ram part answers ≡ partLeft (feedPacked (v .number) (v .place)) feed ram answers
+      → partCall feed ram part answers ≡ inPlace (feedPacked 1 0) feed ram answers
+  pub part : (feed ram part answers : List ℕ) → length feed ≡ 48 → (getD feed 28 0 ≡ 1 → ⊥) → (n at : ℕ)
+      → First (partCallTable feed (length ram) (length part) (length answers)) n at
+      → partCall feed ram part answers ≡ inPlace (feedPacked n at) feed ram answers
   pub part-taken : (feed ram part answers : List ℕ) → length feed ≡ 48 → (getD feed 28 0 ≡ 1 → ⊥)
-      → partCallVerdict feed (length ram) (length part) (length answers) .number ≡ 0
+      → NoneHolds (partCallTable feed (length ram) (length part) (length answers))
       → refusesPart (partCall feed ram part answers .answer % 256) ≡ false
-  pub close-feed : (feed : List ℕ) → (length feed ≡ 48 → ⊥) → closeCall feed ≡ filled (feedPacked 1 0) feed
-  pub close-state : (feed : List ℕ) → length feed ≡ 48 → (getD feed 28 0 ≡ 1 → ⊥) → let v = recordVerdict feed in
-      (v .number ≡ 0 → ⊥) → closeCall feed ≡ filled (feedPacked (v .number) (v .place)) feed
-  pub close-done : (feed : List ℕ) → length feed ≡ 48 → (getD feed 28 0 ≡ 1 → ⊥) → recordVerdict feed .number ≡ 0
-      → closeCall feed .verdict ≡ feedPacked (if (eqb (getD (drop 24 feed) 0 0) 0) 0 3) (wordAt (drop 24 feed) 12)
+  pub close-feed : (feed : List ℕ) → (length feed ≡ 48 → ⊥) → closeCall feed ≡ result (feedPacked 1 0) feed
+  pub close-state : (feed : List ℕ) → length feed ≡ 48 → (getD feed 28 0 ≡ 1 → ⊥) → (n at : ℕ) → First (recordTable feed) n at
+      → closeCall feed ≡ result (feedPacked n at) feed
+  pub close-done : (feed : List ℕ) → length feed ≡ 48 → (getD feed 28 0 ≡ 1 → ⊥) → NoneHolds (recordTable feed)
+      → closeCall feed .answer ≡ feedPacked (if (eqb (getD (drop 24 feed) 0 0) 0) 0 3) (wordAt (drop 24 feed) 12)

@@ -7,7 +7,7 @@ use lib.Dec.{eqb}
 use lib.ListN.{getD, take, drop}
 use Rattle.basics.specs.Bytes.{wordBytes}
 use Rattle.basics.specs.Choice.{if}
-use Rattle.sed1520.specs.ChipRecord.{chipsBytes}
+use Rattle.panel.specs.Chips.{chipsBytes}
 use Rattle.trace.specs.declared.progress.Ending.{Ending}
 use Rattle.trace.specs.declared.progress.Ending.the-variants.{Open, Stopped}
 use Rattle.trace.specs.declared.progress.Progress.{Progress}

@@ -5,3 +5,4 @@ pub mod Shown
 pub mod FeedRecord
 pub mod FeedCall
 pub mod FeedPromises
+pub mod AsReplay

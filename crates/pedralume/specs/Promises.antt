@@ -2,7 +2,7 @@
 use Prim.Native.Nat.{ℕ, _/_, _%_, _^_, _<_}
 use mathlib.Core.Path.{_≡_}
 use mathlib.Core.List.{List}
-use Rattle.sed1520.specs.Panel.{Panel}
+use Rattle.panel.specs.Panel.{Panel}
 use Rattle.sed1520.specs.declared.registers.Chip.{Chip}
 use Rattle.trace.specs.Replay.{replayOf, replayInPlace}
 use Rattle.frame.specs.Frame.{framed}
@@ -29,7 +29,7 @@ pub record AnswersUnpack : Type 0 where
   pub parts : (n at compared differing : ℕ) → n < 256 → at < 65536 → compared < 65536 → Unpacks n at compared differing
   pub replay : (chips ram trace answers : List ℕ) → let a = replayInPlace chips ram trace answers .answer in
       Small (a .place) (a .compared) (a .differing)
-  pub replay-by-value : (p : Panel) (trace answers : List ℕ) → let o = replayOf p trace answers in Small (o .place) (o .compared) (o .differing)
-  pub frame-place : (p : Panel) (buffer : List ℕ) → framed p buffer .verdict .place < 65536
-  pub changes-place : (p : Panel) (trace buffer : List ℕ) → changesOf p trace buffer .verdict .place < 65536
-  pub repaint-place : (left right : Chip) (picture buffer : List ℕ) → repaintOf left right picture buffer .verdict .place < 65536
+  pub replay-by-value : (p : Panel) (trace answers : List ℕ) → let a = replayOf p trace answers .answer in Small (a .place) (a .compared) (a .differing)
+  pub frame-place : (p : Panel) (buffer : List ℕ) → framed p buffer .answer .place < 65536
+  pub changes-place : (p : Panel) (trace buffer : List ℕ) → changesOf p trace buffer .answer .place < 65536
+  pub repaint-place : (left right : Chip) (picture buffer : List ℕ) → repaintOf left right picture buffer .answer .place < 65536

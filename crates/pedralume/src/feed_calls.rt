@@ -2,13 +2,14 @@
 ghost use Prim.Native.Nat.{_<_};
 ghost use mathlib.Core.Path.{_≡_};
 ghost use lib.ListN.{length};
-ghost use Rattle.pedralume.specs.FeedCall.{feedPacked, stays, keptOr, openCall, partLeft, partCall, closeCall};
-ghost use Rattle.sed1520.specs.Verdict.{filled};
+ghost use Rattle.pedralume.specs.FeedCall.{feedPacked, stays, keptOr, openCall, partCall, closeCall};
+ghost use Rattle.basics.specs.Verdict.{result};
+ghost use Rattle.trace.specs.Replay.{inPlace};
 use crate::feed_record::FEED_BYTES;
 use crate::feed_record::progress_in;
 use crate::feed_record::progress_out;
-use sed1520::chip_record::CHIPS_BYTES;
-use sed1520::chip_record::chips_in;
+use panel::chips::CHIPS_BYTES;
+use panel::chips::chips_in;
 use trace::feed::Feed;
 use trace::feed::part_in_place;
 use trace::progress::Ending;
@@ -51,7 +52,7 @@ fn write_back(ending: Ending, number: u8, next: Progress, bytes: &mut [u8])
 // Opens a feed on two chip records: all 48 bytes of the feed record are written, the chips as given.
 #[no_mangle]
 pub extern "C" fn pedralume_feed_open(feed: &mut [u8], chips: &[u8]) -> u64
-    ensures { λ r. ⌜ filled r (now (feed .exit)) ≡ openCall (now (feed .entry)) (now (chips .entry)) ⌝ }
+    ensures { λ r. ⌜ result r (now (feed .exit)) ≡ openCall (now (feed .entry)) (now (chips .entry)) ⌝ }
 {
     if feed.len() != FEED_BYTES {
         return pack_feed(1, 0);
@@ -79,7 +80,7 @@ pub extern "C" fn pedralume_feed_part(
     part: &[u8],
     answers: &mut [u8],
 ) -> u64
-    ensures { λ r. ⌜ partLeft r (now (feed .exit)) (now (ram .exit)) (now (answers .exit))
+    ensures { λ r. ⌜ inPlace r (now (feed .exit)) (now (ram .exit)) (now (answers .exit))
         ≡ partCall (now (feed .entry)) (now (ram .entry)) (now (part .entry)) (now (answers .entry)) ⌝ }
 {
     if feed.len() != FEED_BYTES {
@@ -97,7 +98,7 @@ pub extern "C" fn pedralume_feed_part(
 // The end of the trace: the feed that lies in the record is closed.
 #[no_mangle]
 pub extern "C" fn pedralume_feed_close(feed: &mut [u8]) -> u64
-    ensures { λ r. ⌜ filled r (now (feed .exit)) ≡ closeCall (now (feed .entry)) ⌝ }
+    ensures { λ r. ⌜ result r (now (feed .exit)) ≡ closeCall (now (feed .entry)) ⌝ }
 {
     if feed.len() != FEED_BYTES {
         return pack_feed(1, 0);

@@ -6,11 +6,11 @@ mod packing;
 
 ghost use mathlib.Core.Path.{_≡_};
 ghost use Rattle.pedralume.specs.Call.{replayCall, frameCall, repaintCall, changesCall};
-ghost use Rattle.sed1520.specs.Verdict.{filled};
+ghost use Rattle.basics.specs.Verdict.{result};
 ghost use Rattle.trace.specs.Replay.{inPlace};
 use crate::packing::pack;
-use sed1520::chip_record::CHIPS_BYTES;
-use sed1520::chip_record::chips_in;
+use panel::chips::CHIPS_BYTES;
+use panel::chips::chips_in;
 
 // The replay of a trace on two chip records, the image and an answer buffer.
 #[no_mangle]
@@ -30,7 +30,7 @@ pub extern "C" fn pedralume_replay(
 // The frame that two chip records and the image show, into a frame buffer.
 #[no_mangle]
 pub extern "C" fn pedralume_frame(chips: &[u8], ram: &[u8], frame: &mut [u8]) -> u64
-    ensures { λ r. ⌜ filled r (now (frame .exit)) ≡ frameCall (now (chips .entry)) (now (ram .entry)) (now (frame .entry)) ⌝ }
+    ensures { λ r. ⌜ result r (now (frame .exit)) ≡ frameCall (now (chips .entry)) (now (ram .entry)) (now (frame .entry)) ⌝ }
 {
     if chips.len() != CHIPS_BYTES {
         return pack(1, 0, 0, 0);
@@ -45,7 +45,7 @@ pub extern "C" fn pedralume_frame(chips: &[u8], ram: &[u8], frame: &mut [u8]) ->
 // The records that bring a picture to the panel of two chip records, into an output buffer.
 #[no_mangle]
 pub extern "C" fn pedralume_repaint(chips: &[u8], picture: &[u8], output: &mut [u8]) -> u64
-    ensures { λ r. ⌜ filled r (now (output .exit)) ≡ repaintCall (now (chips .entry)) (now (picture .entry)) (now (output .entry)) ⌝ }
+    ensures { λ r. ⌜ result r (now (output .exit)) ≡ repaintCall (now (chips .entry)) (now (picture .entry)) (now (output .entry)) ⌝ }
 {
     if chips.len() != CHIPS_BYTES {
         return pack(1, 0, 0, 0);
@@ -65,7 +65,7 @@ pub extern "C" fn pedralume_changes(
     trace: &[u8],
     entries: &mut [u8],
 ) -> u64
-    ensures { λ r. ⌜ filled r (now (entries .exit))
+    ensures { λ r. ⌜ result r (now (entries .exit))
         ≡ changesCall (now (chips .entry)) (now (ram .entry)) (now (trace .entry)) (now (entries .entry)) ⌝ }
 {
     if chips.len() != CHIPS_BYTES {

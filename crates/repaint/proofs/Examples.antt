@@ -15,10 +15,10 @@ use Rattle.repaint.proofs.ReadyChips.{ready-outcome}
 use Rattle.repaint.proofs.Counts.{pages-length}
 
 module _ (left right : Chip) (picture buffer : List ℕ) (at : LeftReverse left right picture buffer) where
-  written : repaintOf left right picture buffer .buffer ≡ recordsBytes (recordsOf left right picture) ++ drop 1016 buffer
+  written : repaintOf left right picture buffer .lent ≡ recordsBytes (recordsOf left right picture) ++ drop 1016 buffer
   written = rw (ready-outcome left right (at .left-ready) (at .right-ready) picture buffer (at .sizes))
 
-  begins : take 8 (repaintOf left right picture buffer .buffer) ≡ 0x02 ∷ 0x00 ∷ 0xBA ∷ 0x00 ∷ 0x02 ∷ 0x00 ∷ 0x13 ∷ 0x00 ∷ []
+  begins : take 8 (repaintOf left right picture buffer .lent) ≡ 0x02 ∷ 0x00 ∷ 0xBA ∷ 0x00 ∷ 0x02 ∷ 0x00 ∷ 0x13 ∷ 0x00 ∷ []
   unfolding flatMap joined recordsOf pageRecords
   begins = rw (written, at .left-line, at .reverse)
 
@@ -31,7 +31,7 @@ module _ (left right : Chip) (picture buffer : List ℕ) (at : LeftReverse left 
       (drop-at (recordsBytes pages) (recordsBytes (turnsOf left right) ++ drop 1016 buffer) 1008
       (bytes-length pages ∙ rw (pages-length left right picture)))
 
-  ends : take 8 (drop 1008 (repaintOf left right picture buffer .buffer)) ≡ 0x02 ∷ 0x00 ∷ 0xD0 ∷ 0x00 ∷ 0x02 ∷ 0x01 ∷ 0xD0 ∷ 0x00 ∷ []
+  ends : take 8 (drop 1008 (repaintOf left right picture buffer .lent)) ≡ 0x02 ∷ 0x00 ∷ 0xD0 ∷ 0x00 ∷ 0x02 ∷ 0x01 ∷ 0xD0 ∷ 0x00 ∷ []
   unfolding flatMap
   ends = rw (written, turns, at .left-line, at .right-line)
 

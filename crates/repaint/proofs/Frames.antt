@@ -3,9 +3,9 @@ use Prim.Native.Nat.{ℕ}
 use mathlib.Core.Path.{_≡_, ap, _∙_}
 use mathlib.Core.List.{List}
 use lib.ListN.{length, replicate, length-replicate}
-use Rattle.sed1520.specs.Panel.{Panel}
-use Rattle.sed1520.specs.Verdict.{verdict, Filled, filled}
-use Rattle.sed1520.specs.declared.verdict.Verdict.{Verdict}
+use Rattle.basics.specs.Verdict.{verdict, Result, result}
+use Rattle.basics.specs.declared.verdict.Verdict.{Verdict}
+use Rattle.panel.specs.Panel.{Panel}
 use Rattle.frame.specs.Frame.{frameBytes, frameOf, framed}
 use Rattle.frame.proofs.FrameCases.{every-frame-given}
 use Rattle.frame.proofs.HalfLaws.{half-laws}
@@ -13,12 +13,12 @@ use Rattle.repaint.specs.TearFree.{BothReady, shown, FrameGiven}
 use Rattle.repaint.proofs.Quiet.{ready-whole}
 
 module _ (p : Panel) (ready : BothReady p) where
-  call : (buffer : List ℕ) → length buffer ≡ frameBytes → framed p buffer ≡ filled (verdict 0 frameBytes) (frameOf p)
+  call : (buffer : List ℕ) → length buffer ≡ frameBytes → framed p buffer ≡ result (verdict 0 frameBytes) (frameOf p)
   call buffer size = every-frame-given p buffer (ready-whole p ready) size
 
   pub shown-frame : shown p ≡ frameOf p
   unfolding shown
-  shown-frame = ap (λ (o : Filled Verdict). o .buffer) (call (replicate frameBytes 0) (length-replicate {A = ℕ} frameBytes 0))
+  shown-frame = ap (λ (o : Result Verdict (List ℕ)). o .lent) (call (replicate frameBytes 0) (length-replicate {A = ℕ} frameBytes 0))
 
   pub frame-given : FrameGiven p
   frame-given = record { bytes = rw shown-frame (half-laws .whole p); given = λ buffer size. call buffer size ∙ rw shown-frame }

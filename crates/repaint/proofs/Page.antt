@@ -12,13 +12,13 @@ use Rattle.basics.specs.Lists.{tabulated}
 use Rattle.basics.proofs.Run.{Stops, stops-first, state-first}
 use Rattle.sed1520.specs.Command.{first}
 use Rattle.sed1520.specs.Memory.{byteAt}
-use Rattle.sed1520.specs.Panel.{Panel, chipAt, ramAt, outcomeOf, stepped, panelTurn, after}
+use Rattle.panel.specs.Panel.{Panel, chipAt, ramAt, outcomeOf, stepped, panelTurn, after}
 use Rattle.sed1520.specs.Laws.{Registers, registers, sent, Accepts}
 use Rattle.sed1520.specs.declared.registers.Chip.{Chip}
 use Rattle.sed1520.specs.declared.bus.Record.{Record}
 use Rattle.sed1520.specs.declared.commands.Kind.the-variants.{Page, Column}
 use Rattle.sed1520.proofs.CycleLaws.{cycle-laws}
-use Rattle.sed1520.proofs.WholePanel.{whole-fit}
+use Rattle.panel.proofs.WholePanel.{whole-fit}
 use Rattle.frame.specs.Frame.{segments, columnOf}
 use Rattle.frame.proofs.HalfLaws.{half-laws}
 use Rattle.repaint.specs.Repaint.{hiddenPage, lowestColumn, segmentOf, pictureByte, writeOf, pageRecords}

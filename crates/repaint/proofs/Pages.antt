@@ -5,7 +5,7 @@ use mathlib.Core.Path.{_≡_, _∙_}
 use mathlib.Core.Bool.{true≢false, false≢true}
 use mathlib.Core.List.{List, _++_}
 use Rattle.basics.proofs.Run.{stops-join, state-join}
-use Rattle.sed1520.specs.Panel.{Panel, chipAt, ramAt, panelTurn, after}
+use Rattle.panel.specs.Panel.{Panel, chipAt, ramAt, panelTurn, after}
 use Rattle.sed1520.specs.declared.bus.Record.{Record}
 use Rattle.repaint.specs.Repaint.{pageRecords, pagesOf}
 use Rattle.repaint.specs.TearFree.{BothReady}

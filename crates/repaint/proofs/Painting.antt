@@ -10,12 +10,12 @@ use Rattle.basics.specs.Lists.{joined, tabulated}
 use Rattle.basics.proofs.Run.{Stops, stops-none, stops-first, state-none, state-first}
 use Rattle.basics.proofs.Tests.{tested}
 use Rattle.sed1520.specs.Memory.{byteAt, byteSet}
-use Rattle.sed1520.specs.Panel.{Panel, chipAt, ramAt, outcomeOf, stepped, panelTurn, after}
+use Rattle.panel.specs.Panel.{Panel, chipAt, ramAt, outcomeOf, stepped, panelTurn, after}
 use Rattle.sed1520.specs.Laws.{Registers, registers, sent, Accepts}
 use Rattle.sed1520.specs.declared.bus.Record.{Record}
 use Rattle.sed1520.proofs.Cells.{read-written, read-other}
 use Rattle.sed1520.proofs.CycleLaws.{cycle-laws}
-use Rattle.sed1520.proofs.WholePanel.{whole-fit}
+use Rattle.panel.proofs.WholePanel.{whole-fit}
 use Rattle.repaint.proofs.Sides.{Moved, taken, moved}
 use Rattle.repaint.proofs.Quiet.{shownPage, Quiet, quiet-moved}
 

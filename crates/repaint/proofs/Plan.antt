@@ -8,7 +8,7 @@ use mathlib.Core.List.{List, [], _∷_, _++_}
 use lib.ListN.{length, getD, take, replicate, length-append, length-replicate}
 use lib.Seq.{take-length, take-append-le, take-append-add}
 use Rattle.basics.proofs.Run.{Stops, stops-none, stops-first, stops-join, stops-weaker, state-none, state-first, state-join}
-use Rattle.sed1520.specs.Panel.{Panel, chipAt, ramAt, stepped, panelTurn, after}
+use Rattle.panel.specs.Panel.{Panel, chipAt, ramAt, stepped, panelTurn, after}
 use Rattle.sed1520.specs.declared.bus.Record.{Record}
 use Rattle.frame.specs.Frame.{frameBytes, frameOf}
 use Rattle.frame.proofs.HalfLaws.{half-laws}

@@ -11,10 +11,11 @@ use borrow.Author.Tests.{eqb-true, ltb-true, ltb-false}
 use Rattle.basics.proofs.Tests.{tested, either, when}
 use Rattle.sed1520.specs.Chip.{inRange}
 use Rattle.sed1520.specs.Memory.{byteAt}
-use Rattle.sed1520.specs.Panel.{Panel, chipAt, ramAt}
-use Rattle.sed1520.specs.Laws.{ShownRegisters, shownBy, Registers, Whole}
+use Rattle.panel.specs.Panel.{Panel, chipAt, ramAt}
+use Rattle.sed1520.specs.Laws.{ShownRegisters, shownBy, Registers}
+use Rattle.panel.specs.Panel.{Whole}
 use Rattle.sed1520.specs.declared.registers.Chip.{Chip}
-use Rattle.sed1520.proofs.WholePanel.{whole-fit}
+use Rattle.panel.proofs.WholePanel.{whole-fit}
 use Rattle.frame.specs.Frame.{segments, frameBytes, columnOf, frameByte, frameOf}
 use Rattle.frame.specs.Laws.{TwoPages}
 use Rattle.frame.proofs.HalfLaws.{half-laws}

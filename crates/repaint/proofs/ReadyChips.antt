@@ -5,10 +5,10 @@ use mathlib.Core.Bool.{Bool, true, false, not, _&&_, _||_, false≢true}
 use mathlib.Core.List.{List, _++_}
 use lib.Dec.{eqb}
 use lib.ListN.{length, drop}
+use Rattle.basics.specs.Verdict.{verdict, result}
 use Rattle.sed1520.specs.declared.registers.Chip.{Chip}
 use Rattle.sed1520.specs.Records.{recordsBytes}
-use Rattle.sed1520.specs.Verdict.{verdict, filled}
-use Rattle.repaint.specs.Repaint.{recordsOf, repaintSizesWrong, wrongLine, chipsVerdict, repaintOf}
+use Rattle.repaint.specs.Repaint.{recordsOf, repaintSizesWrong, wrongLine, repaintOf}
 use Rattle.repaint.specs.TearFree.{Ready}
 
 -- a ready chip's start line is not between
@@ -20,15 +20,11 @@ line-right c ready = right (eqb (c .«start_line») 0) (eqb (c .«start_line») 
     right false true e = refl
     right false false e = absurd (false≢true e)
 
-ready-verdict : (left right : Chip) → Ready left → Ready right → chipsVerdict left right ≡ verdict 0 254
-unfolding chipsVerdict
-ready-verdict left right l r =
-    let left-line = line-right left l in
-    let right-line = line-right right r in
-    rw (l .range, r .range, l .display, r .display, l .static, r .static, l .duty, r .duty, left-line, right-line, l .modify, r .modify)
-
 pub ready-outcome : (left right : Chip) → Ready left → Ready right
     → (picture buffer : List ℕ) → repaintSizesWrong (length picture) (length buffer) ≡ false
-    → repaintOf left right picture buffer ≡ filled (verdict 0 254) (recordsBytes (recordsOf left right picture) ++ drop 1016 buffer)
+    → repaintOf left right picture buffer ≡ result (verdict 0 254) (recordsBytes (recordsOf left right picture) ++ drop 1016 buffer)
 unfolding repaintOf
-ready-outcome left right l r picture buffer sizes = rw (sizes, ready-verdict left right l r)
+ready-outcome left right l r picture buffer sizes =
+    let left-line = line-right left l in
+    let right-line = line-right right r in
+    rw (sizes, l .range, r .range, l .display, r .display, l .static, r .static, l .duty, r .duty, left-line, right-line, l .modify, r .modify)

@@ -1,20 +1,25 @@
--- The repaint's call: its sizes, in numbers, and how large a place can be.
+-- The repaint's call: its sizes, in numbers, its own numbers, and how large a place can be.
 use Prim.Native.Nat.{ℕ, _<_, _≤_}
 use native.Mathlib.Omega.{arith}
-use mathlib.Core.Path.{_≡_}
+use mathlib.Core.Path.{_≡_, sym, _∙_}
 use mathlib.Core.Bool.{false, not}
-use mathlib.Core.List.{List}
-use mathlib.Core.Logic.{⊎-elim}
+use mathlib.Core.List.{List, _++_}
+use mathlib.Core.Logic.{inr, ⊎-elim}
 use lib.Dec.{ltb, eqb}
-use lib.ListN.{length}
+use lib.ListN.{length, drop}
+use borrow.Author.Needs.{needs}
 use borrow.Author.Tests.{eqb-true, eq-eqb, ltb-false, le-ltb, not-false}
+use Rattle.basics.specs.Table.{Cause}
+use Rattle.basics.specs.Verdict.{verdict, Result, result}
+use Rattle.basics.specs.declared.verdict.Verdict.{Verdict}
+use Rattle.basics.proofs.Table.{first-refuses, none-refuses, refusing-line, passing-table}
 use Rattle.basics.proofs.Tests.{tested, neither}
-use Rattle.sed1520.specs.Chip.{inRange}
-use Rattle.sed1520.specs.Verdict.{verdict}
+use Rattle.sed1520.specs.Records.{recordsBytes}
 use Rattle.sed1520.specs.declared.registers.Chip.{Chip}
-use Rattle.sed1520.proofs.Verdicts.{short-unless, short-filled}
+use Rattle.frame.proofs.TableCalls.{call-exactly, call-place}
+use Rattle.repaint.specs.Numbers.{RepaintNumbers}
+use Rattle.repaint.specs.Repaint.{pictureBytes, recordsOf, repaintSizesWrong, readyTable, chipsVerdict, repaintTable, repaintOf}
 use Rattle.repaint.specs.TearFree.{SizesTold}
-use Rattle.repaint.specs.Repaint.{pictureBytes, repaintSizesWrong, showsNoRam, wrongLine, chipsVerdict, repaintOf}
 
 pub sizes-right : (picture buffer : ℕ) → repaintSizesWrong picture buffer ≡ false → (picture ≡ pictureBytes) × (1016 ≤ buffer)
 unfolding repaintSizesWrong
@@ -34,13 +39,34 @@ sizes-told =
           (tested (repaintSizesWrong picture buffer));
     }
 
--- every place fits 16 bits
-pub places-small : (left right : Chip) (picture buffer : List ℕ) → repaintOf left right picture buffer .verdict .place < 65536
-unfolding repaintOf chipsVerdict
-places-small left right picture buffer =
-    short-filled (repaintSizesWrong (length picture) (length buffer)) _ _ buffer
-    (short-unless (λ c. not (inRange c)) 2 left right _
-    (short-unless showsNoRam 9 left right _
-    (short-unless (λ c. c .«duty_32») 10 left right _
-    (short-unless wrongLine 11 left right _
-    (short-unless (λ c. c .modify) 12 left right (verdict 0 254) (omega arith))))))
+module _ (left right : Chip) (picture buffer : List ℕ) where
+  -- the lines of a call, and what is given where none holds
+  abbrev table : List Cause
+  table = repaintTable left right (length picture) (length buffer)
+
+  abbrev given : Result Verdict (List ℕ)
+  given = result (verdict 0 254) (recordsBytes (recordsOf left right picture) ++ drop 1016 buffer)
+
+  -- every place fits 16 bits
+  pub places-small : repaintOf left right picture buffer .answer .place < 65536
+  unfolding repaintOf
+  places-small = call-place table buffer given (λ at. at < 65536) (search needs) (λ _. omega arith)
+
+  -- the sizes right, and then the verdict on both chips: a number refuses, and number 0 gives the records
+  module _ (sizes : repaintSizesWrong (length picture) (length buffer) ≡ false) (v : Verdict) (e : v ≡ chipsVerdict left right) where
+    pub chips-refused : (v .number ≡ 0 → ⊥) → result v buffer ≡ repaintOf left right picture buffer
+    unfolding repaintOf chipsVerdict
+    chips-refused nonzero =
+        let line = refusing-line (readyTable left right) v 254 e nonzero in
+        sym (first-refuses (λ n at. result (verdict n at) buffer) given table (v .number) (v .place) (inr (sizes, line)))
+
+    pub chips-ready : v .number ≡ 0 → {after : List ℕ} → after ≡ given .lent → result v after ≡ repaintOf left right picture buffer
+    unfolding repaintOf chipsVerdict
+    chips-ready zero written =
+        let none = passing-table (readyTable left right) v 254 e (search needs) zero in
+        rw (written, e ∙ none-refuses verdict (verdict 0 254) (readyTable left right) none)
+        (sym (none-refuses (λ n at. result (verdict n at) buffer) given table (sizes, none)))
+
+pub repaint-numbers : RepaintNumbers
+unfolding repaintOf
+repaint-numbers left right picture buffer = call-exactly (table left right picture buffer) buffer (given left right picture buffer)

@@ -5,10 +5,11 @@ use mathlib.Core.Bool.{Bool, true, false, false≢true, true≢false}
 use mathlib.Core.List.{List}
 use mathlib.Core.Logic.{_⊎_, inl, inr}
 use lib.Dec.{eqb}
-use Rattle.sed1520.specs.Panel.{Panel, chipAt, ramAt, outcomeOf, stepped}
-use Rattle.sed1520.specs.Laws.{Registers, registers, Whole, Accepts}
+use Rattle.panel.specs.Panel.{Panel, chipAt, ramAt, outcomeOf, stepped}
+use Rattle.sed1520.specs.Laws.{Registers, registers, Accepts}
+use Rattle.panel.specs.Panel.{Whole}
 use Rattle.sed1520.specs.declared.bus.Record.{Record}
-use Rattle.sed1520.proofs.PanelLaws.{every-record-apart, stepped-whole}
+use Rattle.panel.proofs.PanelLaws.{every-record-apart, stepped-whole}
 
 -- two numbers name the same chip or not
 pub same-side : (j k : ℕ) → (eqb j 0 ≡ eqb k 0) ⊎ (eqb j 0 ≡ eqb k 0 → ⊥)
@@ -20,7 +21,7 @@ same-side j k = sides (eqb j 0) (eqb k 0)
     sides false true = inr false≢true
     sides false false = inl refl
 
--- the panel after a record to chip k: that side as told, the other as it was
+-- the panel after a record to chip k: that side has these registers and bytes, the other side is as it was
 pub record Moved (p q : Panel) (k : ℕ) (next : Registers) (bytes : List ℕ) : Type 0 where
   pub registers-after : registers (chipAt q k) ≡ next
   pub ram-after : ramAt q k ≡ bytes

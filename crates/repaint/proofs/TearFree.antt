@@ -6,13 +6,13 @@ use mathlib.Core.Bool.{true, false}
 use mathlib.Core.List.{List, [], _∷_, _++_}
 use mathlib.Core.Logic.{⊎-elim}
 use lib.ListN.{length, getD, take, drop}
+use Rattle.basics.specs.Verdict.{verdict, result}
 use Rattle.basics.proofs.Run.{accepted-at}
 use Rattle.basics.proofs.Tests.{tested}
-use Rattle.sed1520.specs.Panel.{Panel, outcomeOf, panelTurn, after}
+use Rattle.panel.specs.Panel.{Panel, outcomeOf, panelTurn, after}
 use Rattle.sed1520.specs.Records.{recordsBytes, front}
-use Rattle.sed1520.specs.Verdict.{verdict, filled}
 use Rattle.sed1520.specs.declared.bus.Record.{Record}
-use Rattle.sed1520.proofs.PanelLaws.{every-place}
+use Rattle.panel.proofs.PanelLaws.{every-place}
 use Rattle.sed1520.proofs.Records.{records-back, record-back}
 use Rattle.frame.specs.Frame.{frameOf}
 use Rattle.repaint.specs.Repaint.{pictureBytes, pagesOf, recordsOf, repaintSizesWrong, repaintOf}
@@ -43,14 +43,14 @@ module _ (p : Panel) (ready : BothReady p) (q : Request) where
         rw (pages-length (p .left) (p .right) (q .picture))
         at (plan-repaints p ready (q .picture) size (q .bytes) pages (pages-plan p ready (q .picture)))
 
-    outcome : asked p q ≡ filled (verdict 0 254) (recordsBytes records ++ drop 1016 (q .buffer))
+    outcome : asked p q ≡ result (verdict 0 254) (recordsBytes records ++ drop 1016 (q .buffer))
     outcome = ready-outcome (p .left) (p .right) (ready .left) (ready .right) (q .picture) (q .buffer) sizes
 
     -- where the first k cycles lead, and the record after them
     stop : (k : ℕ) → k ≤ 254 → sentSoFar p q k ≡ after p (take k records)
     stop k h = rw (outcome, records-back records (drop 1016 (q .buffer)) k (omega (arith, repaints .many)))
 
-    cycle : (k : ℕ) → k < 254 → outcomeOf (sentSoFar p q k) (front (drop (4 * k) (asked p q .buffer))) .answer .number ≡ 0
+    cycle : (k : ℕ) → k < 254 → outcomeOf (sentSoFar p q k) (front (drop (4 * k) (asked p q .lent))) .answer .number ≡ 0
     cycle k h =
         let within : k < length records = omega (arith, repaints .many) in
         rw (stop k (omega arith), outcome, record-back records (drop 1016 (q .buffer)) (front []) k within)
@@ -68,7 +68,7 @@ module _ (p : Panel) (ready : BothReady p) (q : Request) where
           number = rw outcome;
           place = rw outcome;
           cycles = λ k h. cycle k (omega (arith, q .within));
-          places = λ k h. every-place (sentSoFar p q k) (front (drop (4 * k) (asked p q .buffer)));
+          places = λ k h. every-place (sentSoFar p q k) (front (drop (4 * k) (asked p q .lent)));
           ready = λ k h. ready-at-stop k (omega (arith, q .within));
           frames = λ k h. frame-given (sentSoFar p q k) (ready-at-stop k (omega (arith, q .within)));
           before = λ k h l. shown-at-stop k (omega arith) ∙ repaints .before k l ∙ sym (shown-frame p ready);

@@ -13,11 +13,12 @@ use Rattle.basics.specs.Choice.{if}
 use Rattle.basics.proofs.Tests.{tested, when}
 use Rattle.sed1520.specs.Chip.{withStartLine}
 use Rattle.sed1520.specs.Memory.{byteAt}
-use Rattle.sed1520.specs.Panel.{Panel, chipAt, ramAt, outcomeOf, stepped}
-use Rattle.sed1520.specs.Laws.{ShownRegisters, Registers, registers, Whole, Accepts}
+use Rattle.panel.specs.Panel.{Panel, chipAt, ramAt, outcomeOf, stepped}
+use Rattle.sed1520.specs.Laws.{ShownRegisters, Registers, registers, Accepts}
+use Rattle.panel.specs.Panel.{Whole}
 use Rattle.sed1520.specs.declared.registers.Chip.{Chip}
 use Rattle.sed1520.proofs.CycleLaws.{cycle-laws}
-use Rattle.sed1520.proofs.WholePanel.{whole-fit}
+use Rattle.panel.proofs.WholePanel.{whole-fit}
 use Rattle.frame.specs.Frame.{segments, columnOf, frameByte, frameOf, framePlace}
 use Rattle.frame.specs.Laws.{TwoPages}
 use Rattle.frame.proofs.HalfLaws.{half-laws}

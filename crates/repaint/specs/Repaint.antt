@@ -6,12 +6,13 @@ use lib.Dec.{ltb, eqb}
 use lib.ListN.{length, getD, drop}
 use Rattle.basics.specs.Choice.{if}
 use Rattle.basics.specs.Lists.{tabulated}
-use Rattle.sed1520.specs.Chip.{columnStop, inRange}
+use Rattle.basics.specs.Table.{Cause, cause, leftThenRight, unlessRefused, verdictBy}
+use Rattle.basics.specs.Verdict.{verdict, Result, result}
+use Rattle.basics.specs.declared.verdict.Verdict.{Verdict}
+use Rattle.sed1520.specs.Chip.{columnStop, outOfRange}
 use Rattle.sed1520.specs.Command.{first}
 use Rattle.sed1520.specs.Laws.{sent}
 use Rattle.sed1520.specs.Records.{recordsBytes}
-use Rattle.sed1520.specs.Verdict.{verdict, unless, Filled, filledBy}
-use Rattle.sed1520.specs.declared.verdict.Verdict.{Verdict}
 use Rattle.sed1520.specs.declared.registers.Chip.{Chip}
 use Rattle.sed1520.specs.declared.bus.Record.{Record}
 use Rattle.sed1520.specs.declared.commands.Kind.the-variants.{StartLine, Page, Column}
@@ -79,18 +80,25 @@ showsNoRam c = not (c .«display_on») || c .«static_on»
 abbrev pub wrongLine : Chip → Bool
 wrongLine c = not (eqb (c .«start_line») 0) && not (eqb (c .«start_line») 16)
 
--- numbers 2 and 9 to 12, lowest first; else done, with 254 records
-unfoldable pub chipsVerdict : Chip → Chip → Verdict
-chipsVerdict left right =
-    unless (λ c. not (inRange c)) 2 left right
-    (unless showsNoRam 9 left right
-    (unless (λ c. c .«duty_32») 10 left right
-    (unless wrongLine 11 left right
-    (unless (λ c. c .modify) 12 left right
-    (verdict 0 254)))))
+-- the numbers of two chips that a repaint is not written for: 2 and 9 to 12, each of the left chip before the right one
+abbrev pub readyTable : Chip → Chip → List Cause
+readyTable left right =
+    leftThenRight 2 (outOfRange left) (outOfRange right)
+    (leftThenRight 9 (showsNoRam left) (showsNoRam right)
+    (leftThenRight 10 (left .«duty_32») (right .«duty_32»)
+    (leftThenRight 11 (wrongLine left) (wrongLine right)
+    (leftThenRight 12 (left .modify) (right .modify) []))))
 
--- number 1, then the chips' verdict: done, the records with the rest of a longer buffer as it was
-unfoldable pub repaintOf : Chip → Chip → List ℕ → List ℕ → Filled Verdict
+-- the verdict on two chips: the first number that holds of one of them, or 0 with the 254 records as place
+unfoldable pub chipsVerdict : Chip → Chip → Verdict
+chipsVerdict left right = verdictBy (readyTable left right) (verdict 0 254)
+
+-- the numbers of a repaint, by both chips and the lengths of picture and output buffer
+abbrev pub repaintTable : Chip → Chip → ℕ → ℕ → List Cause
+repaintTable left right picture buffer = cause 1 0 (repaintSizesWrong picture buffer) ∷ readyTable left right
+
+-- the repaint's call: its numbers, which leave the buffer as it came, else the records, with the rest of a longer buffer as it was
+unfoldable pub repaintOf : Chip → Chip → List ℕ → List ℕ → Result Verdict (List ℕ)
 repaintOf left right picture buffer =
-    filledBy (repaintSizesWrong (length picture) (length buffer))
-    (chipsVerdict left right) (recordsBytes (recordsOf left right picture) ++ drop 1016 buffer) buffer
+    unlessRefused (repaintTable left right (length picture) (length buffer)) (λ n at. result (verdict n at) buffer)
+    (result (verdict 0 254) (recordsBytes (recordsOf left right picture) ++ drop 1016 buffer))

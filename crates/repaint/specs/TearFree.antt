@@ -9,12 +9,12 @@ use mathlib.Core.List.{List, [], _∷_, _++_}
 use lib.Dec.{eqb}
 use lib.ListN.{length, getD, drop, replicate}
 use Rattle.basics.specs.Choice.{if}
+use Rattle.basics.specs.Verdict.{verdict, Result, result}
+use Rattle.basics.specs.declared.verdict.Verdict.{Verdict}
 use Rattle.sed1520.specs.Chip.{inRange}
-use Rattle.sed1520.specs.Panel.{Panel, outcomeOf, after}
+use Rattle.panel.specs.Panel.{Panel, outcomeOf, after}
 use Rattle.sed1520.specs.Records.{front, recordsIn}
 use Rattle.sed1520.specs.declared.registers.Chip.{Chip}
-use Rattle.sed1520.specs.declared.verdict.Verdict.{Verdict}
-use Rattle.sed1520.specs.Verdict.{verdict, Filled, filled}
 use Rattle.frame.specs.Frame.{segments, frameBytes, framePlace, framed}
 use Rattle.repaint.specs.Repaint.{pictureBytes, repaintSizesWrong, repaintOf}
 
@@ -42,26 +42,26 @@ pub record Request : Type 0 where
   pub within : stop ≤ 254
 
 -- what the repaint gives back, called with the chips as they stand
-abbrev pub asked : Panel → Request → Filled Verdict
+abbrev pub asked : Panel → Request → Result Verdict (List ℕ)
 asked p q = repaintOf (p .left) (p .right) (q .picture) (q .buffer)
 
 -- the panel after the first k records of the buffer
 abbrev pub sentSoFar : Panel → Request → ℕ → Panel
-sentSoFar p q k = after p (recordsIn (asked p q .buffer) k)
+sentSoFar p q k = after p (recordsIn (asked p q .lent) k)
 
 -- where a repaint leaves the panel: done, the cycles that are sent have had their whole effect; refused, none is given
 abbrev pub leaves : Panel → Request → Panel
-leaves p q = if (eqb (asked p q .verdict .number) 0) (sentSoFar p q (q .stop)) p
+leaves p q = if (eqb (asked p q .answer .number) 0) (sentSoFar p q (q .stop)) p
 
 -- what the panel shows: the bytes that the frame's call leaves in a buffer of 488, called as the panel stands; what the buffer held, here 0, does
 -- not matter (FrameGiven)
 unfoldable pub shown : Panel → List ℕ
-shown p = framed p (replicate frameBytes 0) .buffer
+shown p = framed p (replicate frameBytes 0) .lent
 
 -- these are 488 bytes, and the call gives them, with number 0 and place 488, into any buffer of 488
 pub record FrameGiven (p : Panel) : Type 0 where
   pub bytes : length (shown p) ≡ frameBytes
-  pub given : (buffer : List ℕ) → length buffer ≡ frameBytes → framed p buffer ≡ filled (verdict 0 frameBytes) (shown p)
+  pub given : (buffer : List ℕ) → length buffer ≡ frameBytes → framed p buffer ≡ result (verdict 0 frameBytes) (shown p)
 
 -- the frame that a picture asks for: the picture in the upper 16 rows, the lower 16 dark
 abbrev pub wanted : List ℕ → List ℕ
@@ -73,19 +73,19 @@ pub record SameHalf (chip : ℕ) (one other : List ℕ) : Type 0 where
 
 -- refused with number 1: buffer and panel as they were, and the frame of that panel given
 pub record Refused (p : Panel) (q : Request) : Type 0 where
-  pub number : asked p q .verdict .number ≡ 1
-  pub place : asked p q .verdict .place ≡ 0
-  pub buffer : asked p q .buffer ≡ q .buffer
+  pub number : asked p q .answer .number ≡ 1
+  pub place : asked p q .answer .place ≡ 0
+  pub buffer : asked p q .lent ≡ q .buffer
   pub stays : leaves p q ≡ p
   pub frame : FrameGiven p
 
 -- accepted: every sent cycle accepted, both chips ready and the frame given before the first and after each, and only the last two cycles change
 -- what is shown, each its own half
 pub record Accepted (p : Panel) (q : Request) : Type 0 where
-  pub number : asked p q .verdict .number ≡ 0
-  pub place : asked p q .verdict .place ≡ 254
-  pub cycles : (k : ℕ) → k < q .stop → outcomeOf (sentSoFar p q k) (front (drop (4 * k) (asked p q .buffer))) .answer .number ≡ 0
-  pub places : (k : ℕ) → k < q .stop → outcomeOf (sentSoFar p q k) (front (drop (4 * k) (asked p q .buffer))) .answer .place ≡ 0
+  pub number : asked p q .answer .number ≡ 0
+  pub place : asked p q .answer .place ≡ 254
+  pub cycles : (k : ℕ) → k < q .stop → outcomeOf (sentSoFar p q k) (front (drop (4 * k) (asked p q .lent))) .answer .number ≡ 0
+  pub places : (k : ℕ) → k < q .stop → outcomeOf (sentSoFar p q k) (front (drop (4 * k) (asked p q .lent))) .answer .place ≡ 0
   pub ready : (k : ℕ) → k ≤ q .stop → BothReady (sentSoFar p q k)
   pub frames : (k : ℕ) → k ≤ q .stop → FrameGiven (sentSoFar p q k)
   pub before : (k : ℕ) → k ≤ q .stop → k ≤ 252 → shown (sentSoFar p q k) ≡ shown p

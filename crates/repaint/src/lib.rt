@@ -5,13 +5,13 @@ ghost use Prim.Native.Nat.{_<_, _≤_};
 ghost use mathlib.Core.Path.{_≡_};
 ghost use mathlib.Core.List.{_++_};
 ghost use lib.ListN.{length, drop};
+ghost use Rattle.basics.specs.Verdict.{result};
 ghost use Rattle.sed1520.specs.Records.{recordsBytes};
-ghost use Rattle.sed1520.specs.Verdict.{filled};
 ghost use Rattle.repaint.specs.Repaint.{pictureBytes, recordsOf, repaintSizesWrong, showsNoRam, wrongLine, chipsVerdict, repaintOf};
+use basics::verdict::Verdict;
 use crate::chip_plan::put_page;
 use crate::chip_plan::put_turn;
 use sed1520::registers::Chip;
-use sed1520::verdict::Verdict;
 
 // The bytes of a picture.
 pub const PICTURE_BYTES: usize = 2 * Chip::PANEL_WIDTH;
@@ -83,7 +83,7 @@ fn put_records(left: Chip, right: Chip, picture: &[u8], output: &mut [u8])
 
 // The repaint of a picture on two chips, into an output buffer of at least 1,016 bytes.
 pub fn repaint(left: Chip, right: Chip, picture: &[u8], output: &mut [u8]) -> Verdict
-    ensures { λ r. ⌜ filled r (now (output .exit)) ≡ repaintOf left right (now (picture .entry)) (now (output .entry)) ⌝ }
+    ensures { λ r. ⌜ result r (now (output .exit)) ≡ repaintOf left right (now (picture .entry)) (now (output .entry)) ⌝ }
 {
     if sizes_wrong(picture.len(), output.len()) {
         return Verdict::new(1, 0);

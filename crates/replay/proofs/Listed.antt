@@ -1,21 +1,23 @@
 -- The replay on fresh chips over RAM all 0, its answers within the buffers, and its text.
-use Prim.Native.Nat.{ℕ, _*_, _/_, _%_, _≤_}
+use Prim.Native.Nat.{ℕ, _*_, _/_, _≤_}
 use native.Mathlib.Omega.{arith}
-use mathlib.Core.Path.{_≡_, ap, _∙_}
-use mathlib.Core.Bool.{not, _&&_}
+use mathlib.Core.Path.{_≡_, refl, ap, _∙_}
+use mathlib.Core.Bool.{Bool, _&&_}
 use mathlib.Core.List.{List}
-use lib.Dec.{leb, eqb}
+use lib.Dec.{leb}
 use lib.ListN.{length, replicate, length-replicate}
 use borrow.Author.Tests.{le-leb, lt-leb}
-use Rattle.sed1520.specs.Chip.{inRange, fresh}
-use Rattle.sed1520.specs.Panel.{Panel, panelOf}
-use Rattle.sed1520.specs.declared.registers.Chip.{Chip}
+use Rattle.basics.proofs.Table.{EachLine, each-line, of-first}
 use Rattle.basics.proofs.Tests.{when}
-use Rattle.trace.specs.Replay.{ReplayOutcome, replayOutcome, traceRun, ended, replaySizesWrong, replayOf}
+use Rattle.sed1520.specs.Chip.{fresh}
+use Rattle.sed1520.specs.declared.registers.Chip.{Chip}
+use Rattle.panel.specs.Panel.{Panel, panelOf}
+use Rattle.panel.specs.Trace.{traceRun}
+use Rattle.trace.specs.Replay.{ReplayOutcome, replayOutcome, refusedAt, ended, endedBytes, replayTable, replayOf}
 use Rattle.trace.specs.declared.Replayed.{Replayed}
 use Rattle.trace.proofs.AfterEach.{replies-bound}
 use Rattle.trace.proofs.Bounds.{replay-bounded}
-use Rattle.trace.proofs.ReplayCases.{sizes-right}
+use Rattle.trace.proofs.ReplayNumbers.{table, sizes-right}
 use Rattle.replay.specs.Text.{linesOf, endOf, givenOf, textOf, programText, start, Put}
 use Rattle.replay.proofs.Digits.{put-more}
 
@@ -34,22 +36,25 @@ given-records n at l h = rw (le-leb 1 n l, lt-leb n 3 h)
 given-bound : (n at : ℕ) → givenOf n at ≤ at
 given-bound n at = when (λ (k : ℕ). k ≤ at) (leb 1 n && leb n 3) (λ _. omega arith) (λ _. omega arith)
 
+-- numbers 1 to 3 give no answers
+none-given : (left right : Bool) (trace ram answers : ℕ) → EachLine (λ n at. givenOf n at ≡ 0) (replayTable left right trace ram answers)
+none-given left right trace ram answers = (λ _. refl, λ _. (λ _. refl, λ _. (λ _. refl, λ _. (λ _. refl, λ _. tt))))
+
 -- two answer bytes for each answer given
-given-space : (p : Panel) (trace answers : List ℕ)
-    → 2 * givenOf (replayOf p trace answers .number) (replayOf p trace answers .place) ≤ length answers
+given-space : (p : Panel) (trace answers : List ℕ) → let a = replayOf p trace answers .answer in
+    2 * givenOf (a .number) (a .place) ≤ length answers
 unfolding replayOf ended
 given-space p trace answers =
-    when Enough (replaySizesWrong (length trace) (length (p .ram)) (length answers)) (λ _. omega arith)
-    (λ sizes. let right = sizes-right (length trace) (length trace / 4) (length (p .ram)) (length answers) sizes in
-    when Enough (not (inRange (p .left))) (λ _. omega arith)
-    (λ _. when Enough (not (inRange (p .right))) (λ _. omega arith)
-    (λ _. when Enough (not (eqb (length trace % 4) 0)) (λ _. omega arith)
-    (λ _. let run = traceRun p trace in
+    each-line (λ n at. refusedAt n at p answers) (endedBytes p trace answers)
+    (λ (o : ReplayOutcome). 2 * givenOf (o .answer .number) (o .answer .place) ≤ length answers) (table p trace answers)
+    (λ n at first.
+    let none = of-first (λ n at. givenOf n at ≡ 0) (table p trace answers) (none-given _ _ (length trace) (length (p .ram)) (length answers)) n at first in
+    omega (arith, none))
+    (λ none.
+    let right = sizes-right (length trace) (length trace / 4) (length (p .ram)) (length answers) (none .0) in
+    let run = traceRun p trace in
     let few = given-bound (run .number) (length (run .answers)) in
-    omega (arith, few, replies-bound p trace)))))
-  where
-    Enough : ReplayOutcome → Type 0
-    Enough o = 2 * givenOf (o .number) (o .place) ≤ length answers
+    omega (arith, few, replies-bound p trace, right .space))
 
 -- a replay on fresh chips over RAM all 0, into an answer buffer all 0
 pub record FromFresh (trace answers ram′ answers′ : List ℕ) (done : Replayed) : Type 0 where
@@ -66,9 +71,9 @@ module _ {trace answers ram′ answers′ : List ℕ} {done : Replayed} (ran : F
   -- the answers given fit the text, which has 16,384 lines, and the answer buffer
   pub given-fits : (givenOf (done .number) (done .place) ≤ 16384) × (2 * givenOf (done .number) (done .place) ≤ length answers)
   given-fits =
-      let number = ap (λ (o : ReplayOutcome). o .number) (ran .ends) in
-      let place = ap (λ (o : ReplayOutcome). o .place) (ran .ends) in
-      let o = replayOf start trace answers in
+      let number = ap (λ (o : ReplayOutcome). o .answer .number) (ran .ends) in
+      let place = ap (λ (o : ReplayOutcome). o .answer .place) (ran .ends) in
+      let o = replayOf start trace answers .answer in
       let few = given-bound (o .number) (o .place) in
       rw (number, place) (omega (arith, few, replay-bounded start trace answers .place-few), given-space start trace answers)
 

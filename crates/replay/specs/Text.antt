@@ -10,7 +10,7 @@ use lib.Seq.{sets}
 use Rattle.basics.specs.Choice.{if}
 use Rattle.basics.specs.Lists.{joined}
 use Rattle.sed1520.specs.Chip.{fresh}
-use Rattle.sed1520.specs.Panel.{Panel, panelOf}
+use Rattle.panel.specs.Panel.{Panel, panelOf}
 use Rattle.trace.specs.Replay.{ReplayOutcome, replayOf}
 
 -- the decimal digits of a number that has at most so many, in ASCII, no zeros in front
@@ -53,7 +53,9 @@ givenOf number place = if (leb 1 number && leb number 3) 0 place
 
 -- the text of a replay
 unfoldable pub textOf : ReplayOutcome → List ℕ
-textOf o = linesOf (o .answers) (givenOf (o .number) (o .place)) ++ endOf (o .number) (o .place) (o .compared) (o .differing)
+textOf o =
+    let a = o .answer in
+    linesOf (o .lent .answers) (givenOf (a .number) (a .place)) ++ endOf (a .number) (a .place) (a .compared) (a .differing)
 
 -- fresh chips, RAM all 0
 abbrev pub start : Panel

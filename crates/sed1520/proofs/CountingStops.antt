@@ -1,4 +1,4 @@
--- Counting reaches the column at which it stops, stays there, and never passes it.
+-- Counting reaches the column at which it stops, and stays there.
 use Prim.Native.Nat.{ℕ, suc, _<_}
 use native.Mathlib.Omega.{arith}
 use mathlib.Core.Path.{_≡_, _∙_}
@@ -10,10 +10,7 @@ use Rattle.sed1520.specs.Cycle.{outcome, answered, dataRead, cycleOf}
 use Rattle.sed1520.specs.Laws.{sent, Fit}
 use Rattle.sed1520.specs.declared.registers.Chip.{Chip}
 use Rattle.sed1520.proofs.ActionCases.{data-write-stored, data-write-stopped, after-read-counted, after-read-stopped}
-use Rattle.sed1520.proofs.ChipRange.{ranges}
-use Rattle.sed1520.proofs.PanelLaws.{after-whole}
 use Rattle.sed1520.proofs.SentRecords.{write-cycle, read-cycle}
-use Rattle.sed1520.proofs.WholePanel.{whole-fit}
 
 module _ (c : Chip) (ram : List ℕ) (fit : Fit c ram) (k : ℕ) (addressed : k < 2) (b : ℕ) where
   module _ (last : suc (c .column) ≡ columnStop) where
@@ -37,5 +34,4 @@ counting-stops =
     record {
       reached = λ c ram fit last k addressed b. (by-write c ram fit k addressed b last, by-read c ram fit k addressed b last);
       stays = λ c ram fit stopped k addressed b. (write-stays c ram fit k addressed b stopped, read-stays c ram fit k addressed b stopped);
-      never-past = λ p whole rs k. let r = ranges _ (whole-fit _ (after-whole rs p whole) k .range) in (r .column, r .saved);
     }

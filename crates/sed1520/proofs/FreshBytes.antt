@@ -1,20 +1,16 @@
--- The byte of a fresh read latch stands in RAM: every record keeps it so, and an answer of kind 1 is such a byte.
+-- The byte of a fresh read latch stands in RAM: every cycle keeps it so, and an answer of kind 1 is such a byte.
 use Prim.Native.Nat.{ℕ}
 use native.Mathlib.Omega.{arith}
 use mathlib.Core.Path.{_≡_, refl, sym, ap, _∙_}
-use mathlib.Core.Bool.{true≢false, not-eq-not}
+use mathlib.Core.Bool.{true≢false}
 use mathlib.Core.List.{List}
 use mathlib.Core.Logic.{inl, inr, ⊎-elim}
-use mathlib.Mathlib.Data.Bool.Basic.{eq-or-eq-not}
-use lib.Dec.{ltb, eqb}
-use lib.ListN.{length}
+use lib.Dec.{ltb}
 use borrow.Author.Tests.{ltb-true}
-use Rattle.basics.proofs.Run.{run-keeps}
 use Rattle.basics.proofs.Tests.{tested, when}
 use Rattle.sed1520.specs.Chip.{latched, kindOf}
 use Rattle.sed1520.specs.Cycle.{execute, afterRead, dataRead, cycleOf}
-use Rattle.sed1520.specs.LatchPromises.{Near, FreshStands, EveryFreshByte}
-use Rattle.sed1520.specs.Panel.{Panel, chipAt, ramAt, outcomeOf, stepped, panelTurn}
+use Rattle.sed1520.specs.LatchPromises.{Near, FreshStands}
 use Rattle.sed1520.specs.declared.registers.Chip.{Chip}
 use Rattle.sed1520.specs.declared.registers.ReadLatch.{ReadLatch}
 use Rattle.sed1520.specs.declared.registers.ReadLatch.the-variants.{Fresh, Stale}
@@ -23,10 +19,9 @@ use Rattle.sed1520.specs.declared.commands.Kind.the-variants.{Display, S
 use Rattle.sed1520.specs.declared.bus.Record.{Record}
 use Rattle.sed1520.proofs.ActionCases.{data-write-done, data-write-stale}
 use Rattle.sed1520.proofs.EachWay.{each-cycle}
-use Rattle.sed1520.proofs.PanelLaws.{every-record-apart}
 
 -- a stale latch is not a fresh one
-not-fresh : {a b : ℕ} → Stale a ≡ Fresh b → ⊥
+pub not-fresh : {a b : ℕ} → Stale a ≡ Fresh b → ⊥
 not-fresh e = let kinds = ap kindOf e in omega arith
 
 module _ (c : Chip) (ram : List ℕ) (stands : FreshStands c ram) where
@@ -69,7 +64,7 @@ module _ (c : Chip) (ram : List ℕ) (stands : FreshStands c ram) where
       })
       (λ _ b e. absurd (not-fresh e))
 
-  cycle-stands : (r : Record) → let o = cycleOf r c ram in FreshStands (o .answer .chip) (o .ram)
+  pub cycle-stands : (r : Record) → let o = cycleOf r c ram in FreshStands (o .answer .chip) (o .ram)
   unfolding dataRead
   cycle-stands r =
       each-cycle (λ o _. FreshStands (o .answer .chip) (o .ram)) r c c ram refl refl
@@ -86,7 +81,7 @@ by-kind : (latch : ReadLatch) → kindOf latch ≡ 1 → latch ≡ Fresh (latche
 by-kind (Fresh b) e = refl
 by-kind (Stale b) e = absurd (omega arith)
 
-fresh-answer : (c : Chip) (ram : List ℕ) (r : Record) → let a = cycleOf r c ram .answer in a .kind ≡ 1 → c .latch ≡ Fresh (a .byte)
+pub fresh-answer : (c : Chip) (ram : List ℕ) (r : Record) → let a = cycleOf r c ram .answer in a .kind ≡ 1 → c .latch ≡ Fresh (a .byte)
 unfolding dataRead
 fresh-answer c ram r =
     each-cycle (λ o _. o .answer .kind ≡ 1 → c .latch ≡ Fresh (o .answer .byte)) r c c ram refl refl
@@ -97,32 +92,3 @@ fresh-answer c ram r =
       status-read = λ _ e. absurd (omega arith);
       data-read = λ _. by-kind (c .latch);
     })
-
--- on a panel: the chip that the record names by its cycle, the other one as it was
-module _ (k : ℕ) where
-  abbrev Holds : Panel → Type 0
-  Holds p = (length (p .ram) ≡ 640) × FreshStands (chipAt p k) (ramAt p k)
-
-  stepped-holds : (p : Panel) (r : Record) → Holds p → Holds (stepped p r)
-  unfolding outcomeOf
-  stepped-holds p r holds =
-      let apart = every-record-apart p (holds .0) r in (
-        apart .image,
-        ⊎-elim
-            (λ own. let named : FreshStands (chipAt p (r .chip)) (ramAt p (r .chip)) = rw (← own) (holds .1) in
-            let after : FreshStands (chipAt (stepped p r) (r .chip)) (ramAt (stepped p r) (r .chip)) =
-            rw (apart .own-chip, apart .own-ram) (cycle-stands _ _ named r) in
-            rw own after)
-            (λ unlike. let other : eqb k 0 ≡ eqb (r .chip) 0 → ⊥ = λ e. not-eq-not .1 e unlike in
-            rw (apart .other-chip k other, apart .other-ram k other) (holds .1))
-            (eq-or-eq-not (eqb k 0) (eqb (r .chip) 0)),
-      )
-
-pub every-fresh-byte : EveryFreshByte
-unfolding outcomeOf
-every-fresh-byte =
-    record {
-      begun = λ c ram a stale b e. absurd (not-fresh (sym stale ∙ e));
-      kept = λ p image k stands rs. run-keeps panelTurn (Holds k) (λ q r holds _. stepped-holds k q r holds) rs p (image, stands) .1;
-      answered = λ p r stands one. stands _ (fresh-answer (chipAt p (r .chip)) (ramAt p (r .chip)) r one);
-    }

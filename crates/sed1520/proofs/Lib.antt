@@ -1,5 +1,4 @@
 pub mod ActionCases
-pub mod BytesStay
 pub mod Cells
 pub mod ChipRange
 pub mod ColumnRange
@@ -10,14 +9,13 @@ pub mod CommandBytes
 pub mod CycleKeeps
 pub mod CycleLaws
 pub mod CycleTouches
-pub mod EachNumber
+pub mod CycleNumbers
 pub mod EachWay
 pub mod Examples
 pub mod Flags
 pub mod FreshBytes
 pub mod OneEmptyRead
 pub mod OneRule
-pub mod PanelLaws
 pub mod Records
 pub mod RecordStepCases
 pub mod RecordSteps
@@ -25,6 +23,4 @@ pub mod RecordsUndo
 pub mod SentRecords
 pub mod StepCases
 pub mod TurnsStale
-pub mod Verdicts
-pub mod WholePanel
-pub mod RecordNumbers
+pub mod Unmarked

@@ -7,9 +7,9 @@ use mathlib.Core.Logic.{⊎-elim}
 use mathlib.Core.Option.{Option, none, some, Option·none-ne-some as none-ne-some, Option·some-injective as some-injective}
 use lib.Dec.{ltb, eqb}
 use borrow.Author.Tests.{lt-ltb, le-ltb, ltb-true}
-use Rattle.sed1520.specs.Command.{first, count, kinds, among, Told, told, notTold, commandOf, decodeOf, encodeOf}
+use Rattle.sed1520.specs.Command.{first, count, kinds, among, Told, told, notTold, commandOf, decodeOf, isCommand, encodeOf}
 use Rattle.basics.specs.Counts.{sumBelow, countBelow}
-use Rattle.sed1520.specs.Promises.{OneRule, isCommand}
+use Rattle.sed1520.specs.Promises.{OneRule}
 use Rattle.sed1520.specs.declared.commands.Kind.{Kind}
 use Rattle.sed1520.specs.declared.commands.Command.{Command}
 use Rattle.basics.proofs.Tests.{tested}

@@ -4,9 +4,9 @@ use native.Mathlib.Omega.{arith}
 use mathlib.Core.Path.{_≡_, refl, sym, ap, _∙_}
 use mathlib.Core.Bool.{Bool, true, false, _&&_}
 use mathlib.Core.List.{List, [], _∷_}
-use lib.Dec.{ltb}
-use lib.ListN.{length, getD, take, drop, length-drop, take-append-drop, drop-of-length-le}
-use lib.Seq.{drop-cons, length-take-le}
+use lib.Dec.{ltb, eqb}
+use lib.ListN.{length, getD, drop, drop-of-length-le}
+use lib.Seq.{drop-cons}
 use borrow.Author.Tests.{eqb-true, eqb-false, eq-eqb}
 use Rattle.sed1520.specs.Chip.{inRange, fresh, latched}
 use Rattle.sed1520.specs.declared.registers.Chip.{Chip}
@@ -15,7 +15,7 @@ use Rattle.sed1520.specs.declared.registers.ReadLatch.the-variants.{Fres
 use Rattle.basics.specs.Choice.{if}
 use Rattle.basics.proofs.Tests.{both, when}
 use Rattle.sed1520.specs.ChipRecord.{bit, flag, mark, latchOf, chipBytes, registersIn, flagPlaces, flagsAt, flagsRight, recordRight}
-use Rattle.sed1520.specs.ChipRecord.{chipIn, chipsBytes, chipsOf, chipsIn, RecordsFit}
+use Rattle.sed1520.specs.ChipRecord.{noChip, chipIn, chipOut}
 use Rattle.sed1520.specs.Promises.{RecordsUndo}
 use Rattle.sed1520.proofs.Flags.{listed, flag-right, last-right}
 
@@ -79,64 +79,45 @@ marked : (c : Chip) → flagsRight (chipBytes c) ≡ true
 unfolding flagsRight flagsAt chipBytes
 marked c = simp (small, small-mark)
 
--- a record whose flags are right is read by its registers; any other as a chip that number 2 does not let pass
-pub marked-in : (b : List ℕ) → flagsRight b ≡ true → chipIn b ≡ registersIn b
+-- 12 bytes whose flags are right are read by their registers; any others as a chip that number 2 does not let pass
+pub marked-in : (b : List ℕ) → length b ≡ 12 → flagsRight b ≡ true → chipIn b ≡ registersIn b
 unfolding chipIn
-marked-in b m = rw m
+marked-in b h m = rw (eq-eqb (length b) 12 h, m)
 
 pub there : (c : Chip) → chipIn (chipBytes c) ≡ c
-there c = marked-in (chipBytes c) (marked c) ∙ read-back c
+there c = marked-in (chipBytes c) (record-length c) (marked c) ∙ read-back c
 
 pub back : (b : List ℕ) → length b ≡ 12 → flagsRight b ≡ true → chipBytes (chipIn b) ≡ b
-back b h m = ap chipBytes (marked-in b m) ∙ written-back b h m
+back b h m = ap chipBytes (marked-in b h m) ∙ written-back b h m
 
 pub passes : (b : List ℕ) → inRange (chipIn b) ≡ recordRight b
 unfolding chipIn inRange
-passes b = when (λ (c : Chip). inRange c ≡ recordRight b) (flagsRight b) (λ m. rw m) (λ m. rw m)
+passes b = by-tests (eqb (length b) 12) (flagsRight b)
+  where
+    by-tests : (s f : Bool) → inRange (if (s && f) (registersIn b) noChip) ≡ (s && (f && inRange (registersIn b)))
+    by-tests true true = refl
+    by-tests true false = refl
+    by-tests false f = refl
 
 pub chip-passes : (c : Chip) → recordRight (chipBytes c) ≡ inRange c
-chip-passes c = rw (marked c, read-back c)
+chip-passes c = rw (eq-eqb (length (chipBytes c)) 12 (record-length c), marked c, read-back c)
 
--- two records
-pub two-chips : (chips : List ℕ) → length chips ≡ 24 → chipsIn chips ≡ chipsOf (chipIn (take 12 chips)) (chipIn (drop 12 chips))
-unfolding chipsIn
-two-chips chips h = rw (eq-eqb (length chips) 24 h)
+-- a chip written where there are 12 bytes
+pub written-out : (c : Chip) (b : List ℕ) {x : List ℕ} → x ≡ chipOut c b → length b ≡ 12 → x ≡ chipBytes c
+written-out c b e h = e ∙ rw (eq-eqb (length b) 12 h)
 
--- number 2 of two chips is that of their records
-module _ (chips : List ℕ) (records : length chips ≡ 24) (t : Bool) where
-  pub left-passes : recordRight (take 12 chips) ≡ t → inRange (chipsIn chips .left) ≡ t
-  left-passes e = rw (two-chips chips records) (passes (take 12 chips) ∙ e)
+-- what number 2 tells of the bytes that it lets pass
+pub record Passed (b : List ℕ) : Type 0 where
+  pub size : length b ≡ 12
+  pub flags : flagsRight b ≡ true
+  pub range : inRange (registersIn b) ≡ true
 
-  pub right-passes : recordRight (drop 12 chips) ≡ t → inRange (chipsIn chips .right) ≡ t
-  right-passes e = rw (two-chips chips records) (passes (drop 12 chips) ∙ e)
-
-module _ (left right : Chip) where
-  pub two-length : length (chipsBytes left right) ≡ 24
-  unfolding chipBytes
-  two-length = refl
-
-  pub two-there : chipsIn (chipsBytes left right) ≡ chipsOf left right
-  unfolding chipBytes
-  two-there = two-chips (chipsBytes left right) refl ∙ rw (there left, there right)
-
-  pub two-pass : (recordRight (take 12 (chipsBytes left right)) && recordRight (drop 12 (chipsBytes left right))) ≡ (inRange left && inRange right)
-  unfolding chipBytes
-  two-pass = rw (chip-passes left, chip-passes right)
-
--- the records of two chips in range, with the whole image, fit
-pub two-fit : (left right : Chip) (ram : List ℕ) → inRange left ≡ true → inRange right ≡ true → length ram ≡ 640
-    → RecordsFit (chipsBytes left right) ram
-unfolding chipBytes
-two-fit left right ram l r image =
-    record { records = two-length left right; left = chip-passes left ∙ l; right = chip-passes right ∙ r; image = image }
-
-pub two-back : (chips : List ℕ) → length chips ≡ 24 → recordRight (take 12 chips) ≡ true → recordRight (drop 12 chips) ≡ true
-    → chipsBytes (chipsIn chips .left) (chipsIn chips .right) ≡ chips
-two-back chips h l r =
-    rw (two-chips chips h, back (take 12 chips) (length-take-le 12 chips (omega arith)) (both (flagsRight (take 12 chips)) _ l .0))
-    (rw (back (drop 12 chips) (simp length-drop (omega arith)) (both (flagsRight (drop 12 chips)) _ r .0)) (take-append-drop 12 chips))
+pub passed : (b : List ℕ) → recordRight b ≡ true → Passed b
+passed b e =
+    let size = both (eqb (length b) 12) _ e in
+    let rest = both (flagsRight b) _ (size .1) in
+    record { size = eqb-true (length b) 12 (size .0); flags = rest .0; range = rest .1 }
 
 pub records-undo : RecordsUndo
 unfolding chipBytes fresh
-records-undo =
-    record { there = there; back = back; passes = passes; chip-passes = chip-passes; two-there = two-there; two-back = two-back; fresh-record = refl }
+records-undo = record { there = there; back = back; passes = passes; chip-passes = chip-passes; fresh-record = refl }

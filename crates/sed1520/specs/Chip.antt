@@ -1,6 +1,6 @@
 -- A chip's registers: which values of a chip number 2 lets pass, the fresh chip, the read latch, and each register written alone.
 use Prim.Native.Nat.{ℕ}
-use mathlib.Core.Bool.{Bool, true, false, _&&_, _||_}
+use mathlib.Core.Bool.{Bool, true, false, not, _&&_, _||_}
 use lib.Dec.{ltb, leb, eqb}
 use Rattle.basics.specs.Choice.{if}
 use Rattle.sed1520.specs.declared.registers.Chip.{Chip}
@@ -19,6 +19,10 @@ inRange c =
     && (leb (c .column) columnStop
     && (leb (c .«saved_column») columnStop
     && (c .modify || eqb (c .«saved_column») 0))))
+
+-- a chip that number 2 does not let pass
+abbrev pub outOfRange : Chip → Bool
+outOfRange c = not (inRange c)
 
 -- the fresh chip, a project rule (document 01: house)
 unfoldable pub fresh : Chip

@@ -1,18 +1,15 @@
 -- A chip as the C side has it: a record of 12 bytes, no header. Display, static, duty (1 = 1/32), ADC (1 = reverse), read-modify-write,
 -- page, start line, column, saved column, the read latch's mark (1 = fresh) and byte (document 01: holder mark, holder byte), 0.
 use Prim.Native.Nat.{ℕ}
-use mathlib.Core.Path.{_≡_}
 use mathlib.Core.Bool.{Bool, true, _&&_}
-use mathlib.Core.List.{List, [], _∷_, _++_}
+use mathlib.Core.List.{List, [], _∷_}
 use lib.Dec.{ltb, eqb}
-use lib.ListN.{length, getD, take, drop}
+use lib.ListN.{length, getD}
 use Rattle.basics.specs.Choice.{if}
 use Rattle.sed1520.specs.Chip.{inRange, fresh, latched, renewed, withPage}
-use Rattle.sed1520.specs.Panel.{Panel, panelOf}
 use Rattle.sed1520.specs.declared.registers.Chip.{Chip}
 use Rattle.sed1520.specs.declared.registers.ReadLatch.{ReadLatch}
 use Rattle.sed1520.specs.declared.registers.ReadLatch.the-variants.{Fresh, Stale}
-use Rattle.sed1520.specs.declared.chip_record.Chips.{Chips}
 
 -- a flag as a byte
 abbrev pub bit : Bool → ℕ
@@ -37,10 +34,6 @@ chipBytes c =
     bit (c .«display_on») ∷ bit (c .«static_on») ∷ bit (c .«duty_32») ∷ bit (c .reverse) ∷ bit (c .modify)
     ∷ c .page ∷ c .«start_line» ∷ c .column ∷ c .«saved_column» ∷ mark (c .latch) ∷ latched (c .latch) ∷ 0 ∷ []
 
--- the records of both chips, left before right
-abbrev pub chipsBytes : Chip → Chip → List ℕ
-chipsBytes left right = chipBytes left ++ chipBytes right
-
 -- the registers that 12 bytes say, whatever they held; a flag or a mark that is not 1 is taken for 0, and the last byte is passed over
 unfoldable pub registersIn : List ℕ → Chip
 registersIn b =
@@ -59,33 +52,18 @@ flagsAt (place ∷ places) b = ltb (getD b place 0) 2 && flagsAt places b
 unfoldable pub flagsRight : List ℕ → Bool
 flagsRight b = flagsAt flagPlaces b && eqb (getD b 11 0) 0
 
--- number 2 lets a record of 12 bytes pass
+-- number 2 lets these bytes of a chip pass: there are 12, and flags, mark, last byte and registers are right
 abbrev pub recordRight : List ℕ → Bool
-recordRight b = flagsRight b && inRange (registersIn b)
+recordRight b = eqb (length b) 12 && (flagsRight b && inRange (registersIn b))
 
 -- a chip that number 2 does not let pass, with a page that is not there
 abbrev pub noChip : Chip
 noChip = withPage 4 fresh
 
--- the chip of a record; one that number 2 does not let pass where a flag, the mark or the last byte is wrong
+-- the chip of 12 bytes; one that number 2 does not let pass where there are not 12, or a flag, the mark or the last byte is wrong
 unfoldable pub chipIn : List ℕ → Chip
-chipIn b = if (flagsRight b) (registersIn b) noChip
+chipIn b = if (eqb (length b) 12 && flagsRight b) (registersIn b) noChip
 
--- two chips together
-abbrev pub chipsOf : Chip → Chip → Chips
-chipsOf left right = record { left = left; right = right }
-
--- the chips of two records; from other than 24 bytes, chips that number 2 does not let pass
-unfoldable pub chipsIn : List ℕ → Chips
-chipsIn chips = if (eqb (length chips) 24) (chipsOf (chipIn (take 12 chips)) (chipIn (drop 12 chips))) (chipsOf noChip noChip)
-
--- the panel of two records and an image
-abbrev pub panelIn : List ℕ → List ℕ → Panel
-panelIn chips ram = panelOf (chipsIn chips .left) (chipsIn chips .right) ram
-
--- what EveryRecordStep and the replay's loop ask: two chip records that number 2 lets pass, and the whole image
-pub record RecordsFit (chips ram : List ℕ) : Type 0 where
-  pub records : length chips ≡ 24
-  pub left : recordRight (take 12 chips) ≡ true
-  pub right : recordRight (drop 12 chips) ≡ true
-  pub image : length ram ≡ 640
+-- 12 bytes after a chip was written to them; any other number of bytes as they were
+abbrev pub chipOut : Chip → List ℕ → List ℕ
+chipOut c b = if (eqb (length b) 12) (chipBytes c) b

@@ -6,8 +6,7 @@ use mathlib.Core.List.{List}
 use Rattle.sed1520.specs.Chip.{columnStop, inRange, latched, kindOf, staled, withColumn, withModify}
 use Rattle.sed1520.specs.Command.{first, count, told, decodeOf}
 use Rattle.sed1520.specs.Cycle.{outcome, refusal, answered, cycleOf}
-use Rattle.sed1520.specs.Laws.{sent, Fit, Whole}
-use Rattle.sed1520.specs.Panel.{Panel, chipAt, after}
+use Rattle.sed1520.specs.Laws.{sent, Fit}
 use Rattle.sed1520.specs.declared.registers.Chip.{Chip}
 use Rattle.sed1520.specs.declared.commands.Kind.the-variants.{Column}
 use Rattle.sed1520.specs.declared.bus.Record.{Record}
@@ -41,8 +40,7 @@ pub record ColumnRange : Type 0 where
       → (inRange (withColumn n c) ≡ true) × (inRange (withModify true n c) ≡ true)
   pub past : (c : Chip) (n : ℕ) → columnStop < n → (inRange (withColumn n c) ≡ false) × ((on : Bool) → inRange (withModify on n c) ≡ false)
 
--- a data write, and a data read with read-modify-write off, count up to that column, and there both leave column and RAM; from chips that number 2
--- lets pass, over the whole image, no records lead past it
+-- a data write, and a data read with read-modify-write off, count up to that column, and there both leave column and RAM
 pub record CountingStops : Type 0 where
   pub reached : (c : Chip) (ram : List ℕ) → Fit c ram → suc (c .column) ≡ columnStop → (k : ℕ) → k < 2 → (b : ℕ)
       → (cycleOf (sent 3 k b) c ram .answer .chip .column ≡ columnStop)
@@ -50,5 +48,3 @@ pub record CountingStops : Type 0 where
   pub stays : (c : Chip) (ram : List ℕ) → Fit c ram → c .column ≡ columnStop → (k : ℕ) → k < 2 → (b : ℕ)
       → (cycleOf (sent 3 k b) c ram ≡ outcome (answered 0 0 (staled c)) ram)
       × (cycleOf (sent 5 k b) c ram ≡ outcome (answered (kindOf (c .latch)) (latched (c .latch)) (staled c)) ram)
-  pub never-past : (p : Panel) → Whole p → (rs : List Record) (k : ℕ)
-      → (chipAt (after p rs) k .column ≤ columnStop) × (chipAt (after p rs) k .«saved_column» ≤ columnStop)

@@ -3,7 +3,7 @@ use Prim.Native.Nat.{ℕ, _+_, _-_}
 use mathlib.Core.Bool.{Bool, _&&_}
 use mathlib.Core.List.{List, [], _∷_}
 use mathlib.Core.Option.{Option, none, some}
-use lib.Dec.{ltb, leb}
+use lib.Dec.{ltb, leb, eqb}
 use Rattle.basics.specs.Choice.{if}
 use Rattle.sed1520.specs.declared.commands.Kind.{Kind}
 use Rattle.sed1520.specs.declared.commands.Kind.the-variants.{Display, StartLine, Page, Column, Adc, Static, Duty, Modify, End, Reset}
@@ -76,6 +76,10 @@ commandOf b (some k) = told (record { kind = k; argument = b - first k })
 -- a byte told as a command
 unfoldable pub decodeOf : ℕ → Told Command
 decodeOf b = commandOf b (among kinds b)
+
+-- whether a byte is a command
+abbrev pub isCommand : ℕ → Bool
+isCommand b = eqb (decodeOf b .number) 0
 
 -- a command made a byte
 unfoldable pub encodeOf : Command → Told ℕ

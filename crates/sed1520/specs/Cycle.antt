@@ -1,15 +1,16 @@
 -- One bus cycle of one chip over its own 320 bytes of RAM.
 use Prim.Native.Nat.{ℕ, _+_, _/_, _%_}
 use mathlib.Core.Bool.{Bool, true, false, not, _||_}
-use mathlib.Core.List.{List}
+use mathlib.Core.List.{List, [], _∷_}
 use mathlib.Core.Option.{Option, none, some}
 use lib.Dec.{ltb, leb, eqb}
 use lib.ListN.{length}
 use Rattle.basics.specs.Choice.{if}
-use Rattle.sed1520.specs.Chip.{columnStop, inRange, latched, kindOf, staled}
+use Rattle.sed1520.specs.Chip.{columnStop, outOfRange, latched, kindOf, staled}
 use Rattle.sed1520.specs.Chip.{withDisplay, withStatic, withDuty, withReverse, withPage, withStartLine, withColumn, withLatch, withModify}
 use Rattle.sed1520.specs.Command.{first, decodeOf, within}
 use Rattle.basics.specs.Run.{Turn}
+use Rattle.basics.specs.Table.{Cause, cause, unlessRefused}
 use Rattle.sed1520.specs.Memory.{byteAt, byteSet}
 use Rattle.sed1520.specs.declared.registers.Chip.{Chip}
 use Rattle.sed1520.specs.declared.registers.ReadLatch.the-variants.{Fresh}
@@ -114,25 +115,30 @@ actionOf lines b c ram =
     (if (eqb (addressLine lines) 0) (outcome (commandWrite b c) ram) (dataWrite b c ram))
     (if (eqb (addressLine lines) 0) (outcome (statusRead c) ram) (outcome (dataRead c ram) ram))
 
--- the number, 4 to 6, by which a bus record is refused whatever the chip holds, or 0
+-- numbers 4 to 6 of document 01's table, which a bus record is refused by whatever the chip holds
+abbrev pub busTable : Record → List Cause
+busTable r =
+    cause 4 0 (leb 8 (r .lines) || not (eqb (r .spare) 0))
+    ∷ cause 5 0 (leb 2 (r .chip))
+    ∷ cause 6 0 (eqb (readLine (r .lines)) (writeLine (r .lines)))
+    ∷ []
+
+-- the number that refuses a bus record so, or 0
 unfoldable pub busRefusal : Record → ℕ
-busRefusal r =
-    if (leb 8 (r .lines) || not (eqb (r .spare) 0)) 4
-    (if (leb 2 (r .chip)) 5
-    (if (eqb (readLine (r .lines)) (writeLine (r .lines))) 6
-    0))
+busRefusal r = unlessRefused (busTable r) (λ n at. n) 0
 
 -- a cycle past numbers 1 and 2: numbers 4 to 6, then the action
 unfoldable pub stepOf : Record → Chip → List ℕ → Outcome
 stepOf r c ram =
     if (eqb (busRefusal r) 0) (actionOf (r .lines) (r .byte) c ram) (outcome (refusal (busRefusal r) c) ram)
 
+-- numbers 1 and 2 of a cycle
+abbrev pub stateTable : Chip → List ℕ → List Cause
+stateTable c ram = cause 1 0 (not (eqb (length ram) 320)) ∷ cause 2 0 (outOfRange c) ∷ []
+
 -- one cycle: numbers 1 and 2 first
 unfoldable pub cycleOf : Record → Chip → List ℕ → Outcome
-cycleOf r c ram =
-    if (not (eqb (length ram) 320)) (outcome (refusal 1 c) ram)
-    (if (not (inRange c)) (outcome (refusal 2 c) ram)
-    (stepOf r c ram))
+cycleOf r c ram = unlessRefused (stateTable c ram) (λ n at. outcome (refusal n c) ram) (stepOf r c ram)
 
 -- what an accepted record is answered, by kind: 0 a write, with byte 0; 1 a data read with a fresh latch, 2 one with a stale latch,
 -- 3 status, with the byte read

@@ -10,7 +10,6 @@ use Rattle.sed1520.specs.Chip.{columnStop, inRange, withPage, withColumn
 use Rattle.sed1520.specs.Command.{first}
 use Rattle.sed1520.specs.Memory.{byteAt, byteSet}
 use Rattle.sed1520.specs.Cycle.{cycleOf}
-use Rattle.sed1520.specs.Panel.{Panel}
 use Rattle.sed1520.specs.declared.registers.Chip.{Chip}
 use Rattle.sed1520.specs.declared.commands.Kind.the-variants.{StartLine, Page, Column}
 use Rattle.sed1520.specs.declared.bus.Record.{Record}
@@ -47,12 +46,6 @@ sent lines chip b = record { lines = lines; chip = chip; byte = b; spare = 0 }
 pub record Fit (c : Chip) (ram : List ℕ) : Type 0 where
   pub range : inRange c ≡ true
   pub bytes : length ram ≡ 320
-
--- both chips so, over the whole image
-pub record Whole (p : Panel) : Type 0 where
-  pub left : inRange (p .left) ≡ true
-  pub right : inRange (p .right) ≡ true
-  pub image : length (p .ram) ≡ 640
 
 -- the cycle accepts the record, with these registers and this RAM afterwards, the chip and its RAM fit again
 pub record Accepts (r : Record) (c : Chip) (ram : List ℕ) (next : Registers) (after : List ℕ) : Type 0 where

@@ -2,7 +2,7 @@ pub mod Chip
 pub mod Command
 pub mod Memory
 pub mod Cycle
-pub mod Panel
+pub mod CycleNumbers
 pub mod ChipRecord
 pub mod RecordStep
 pub mod Records
@@ -11,4 +11,3 @@ pub mod Promises
 pub mod LatchPromises
 pub mod ColumnPromises
 pub mod Examples
-pub mod Verdict

@@ -1,13 +1,12 @@
--- A bus record given to the chip record that it names, numbers 1, 4 to 8 and 14 refused and number 2 not tested: a step and no cycle. Each action
--- stores only the bytes of the chip record that it may change. For two records that number 2 lets pass, over the whole image, it is the cycle
--- of the chip that the bus record names (EveryRecordStep).
+-- A bus record given to the 12 bytes of a chip and its own 320 bytes of RAM, numbers 1, 4 to 8 and 14 refused and number 2 not tested: a step and
+-- no cycle. Each action stores only the bytes of the chip that it may change. On bytes that number 2 lets pass it is the chip's cycle
+-- (EveryBytesStep).
 use Prim.Native.Nat.{ℕ}
 use mathlib.Core.Bool.{not, _||_}
 use mathlib.Core.List.{List}
 use lib.Dec.{eqb}
 use lib.ListN.{length, set}
 use Rattle.basics.specs.Choice.{if}
-use Rattle.basics.specs.Halves.{partAt, partPut}
 use Rattle.sed1520.specs.Chip.{latched}
 use Rattle.sed1520.specs.ChipRecord.{mark, chipBytes, registersIn}
 use Rattle.sed1520.specs.Cycle.{Outcome, busRefusal, commandWrite, dataWrite, dataRead, statusRead}
@@ -24,7 +23,7 @@ bare a = record { number = a .number; kind = a .kind; byte = a .byte }
 abbrev pub bareRefusal : ℕ → BareAnswer
 bareRefusal n = record { number = n; kind = 0; byte = 0 }
 
--- what a step on both chip records, or an action on one, gives back, and these records and their RAM afterwards
+-- what a step gives back, and the bytes of the chip or of both chips and their RAM afterwards
 pub record Acted : Type 0 where
   pub answer : BareAnswer
   pub chips : List ℕ
@@ -58,14 +57,9 @@ actionOn lines byte b ram =
     (if (eqb lines 5) (acted (bare (dataRead (registersIn b) ram)) (readBytes b (dataRead (registersIn b) ram .chip)) ram)
     (acted (bare (commandWrite byte (registersIn b))) (commandBytes b (commandWrite byte (registersIn b))) ram)))
 
--- what an action leaves of its own chip's record and RAM, put in place
-abbrev pub putBack : ℕ → List ℕ → List ℕ → Acted → Acted
-putBack k chips ram own = acted (own .answer) (partPut 12 k chips (own .chips)) (partPut 320 k ram (own .ram))
-
--- number 1 for lengths that are wrong, numbers 4 to 6, then the action on the chip that the bus record names
-unfoldable pub stepRecords : Record → List ℕ → List ℕ → Acted
-stepRecords r chips ram =
-    if (not (eqb (length chips) 24) || not (eqb (length ram) 640)) (acted (bareRefusal 1) chips ram)
-    (if (eqb (busRefusal r) 0)
-    (putBack (r .chip) chips ram (actionOn (r .lines) (r .byte) (partAt 12 (r .chip) chips) (partAt 320 (r .chip) ram)))
-    (acted (bareRefusal (busRefusal r)) chips ram))
+-- number 1 for lengths that are wrong, numbers 4 to 6, then the action
+unfoldable pub stepBytes : Record → List ℕ → List ℕ → Acted
+stepBytes r b ram =
+    if (not (eqb (length b) 12) || not (eqb (length ram) 320)) (acted (bareRefusal 1) b ram)
+    (if (eqb (busRefusal r) 0) (actionOn (r .lines) (r .byte) b ram)
+    (acted (bareRefusal (busRefusal r)) b ram))

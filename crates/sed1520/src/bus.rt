@@ -5,8 +5,8 @@ ghost use Rattle.sed1520.specs.Cycle.{busRefusal, outcome, actionOf, cyc
 use crate::actions::Answer;
 use crate::registers::Chip;
 
-// The RAM image of both chips.
-pub const IMAGE_BYTES: usize = 2 * Chip::RAM_WIDTH;
+// The bytes of a record in a trace.
+pub const RECORD_BYTES: usize = 4;
 
 // What one cycle carried: the control lines (bit 0 A0, bit 1 RD, bit 2 WR, both active low), the chip that is
 // addressed, the byte on the bus, and a spare byte.

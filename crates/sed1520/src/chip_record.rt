@@ -1,24 +1,12 @@
 // A chip as a record of 12 bytes, both ways.
 ghost use mathlib.Core.Path.{_≡_};
 ghost use lib.ListN.{length};
-ghost use Rattle.sed1520.specs.ChipRecord.{bit, mark, latchOf, chipBytes, chipsBytes, registersIn, flagsRight, noChip, chipIn, chipsIn};
+ghost use Rattle.sed1520.specs.ChipRecord.{bit, mark, latchOf, registersIn, flagsRight, noChip, chipIn, chipOut};
 use crate::registers::Chip;
 use crate::registers::ReadLatch;
 
 // The bytes of a chip record.
-pub(crate) const CHIP_BYTES: usize = 12;
-
-// The bytes of both records.
-pub const CHIPS_BYTES: usize = 24;
-
-// Two chip records, left before right.
-pub type Records = [u8; CHIPS_BYTES];
-
-// Both chips.
-pub struct Chips {
-    pub left: Chip,
-    pub right: Chip,
-}
+pub const CHIP_BYTES: usize = 12;
 
 // A flag as a byte.
 fn bit(flag: bool) -> u8
@@ -95,7 +83,7 @@ fn flags_right(bytes: &[u8]) -> bool
 }
 
 // A chip that number 2 does not let pass.
-fn no_chip() -> Chip
+pub fn no_chip() -> Chip
     ensures { λ r. ⌜ r ≡ noChip ⌝ }
 {
     let mut chip = Chip::fresh();
@@ -103,39 +91,27 @@ fn no_chip() -> Chip
     chip
 }
 
-// The chip of a record; where a flag, the mark or the last byte is wrong, one that number 2 does not let pass.
-fn chip_in(bytes: &[u8]) -> Chip
-    requires { ⌜ length (now bytes) ≡ 12 ⌝ }
+// The chip of 12 bytes; where there are not 12, or a flag, the mark or the last byte is wrong, one that number 2 does not let
+// pass. A chip so given is for testing and not for writing back.
+pub fn chip_in(bytes: &[u8]) -> Chip
     ensures { λ r. ⌜ r ≡ chipIn (now (bytes .entry)) ⌝ }
 {
+    if bytes.len() != CHIP_BYTES {
+        return no_chip();
+    }
     if !flags_right(bytes) {
         return no_chip();
     }
     registers_in(bytes)
 }
 
-// The chips of two records. A record that number 2 refuses gives a chip that it refuses; so does any other length than 24,
-// which is number 1's to refuse before. A chip so given is for testing and not for writing back.
-pub fn chips_in(records: &[u8]) -> Chips
-    ensures { λ r. ⌜ r ≡ chipsIn (now (records .entry)) ⌝ }
+// The chip written as 12 bytes, where there are 12 to write to.
+pub fn chip_out(chip: Chip, bytes: &mut [u8])
+    ensures { λ _. ⌜ now (bytes .exit) ≡ chipOut chip (now (bytes .entry)) ⌝ }
 {
-    if records.len() != CHIPS_BYTES {
-        return Chips {
-            left: no_chip(),
-            right: no_chip(),
-        };
+    if bytes.len() != CHIP_BYTES {
+        return;
     }
-    Chips {
-        left: chip_in(&records[..CHIP_BYTES]),
-        right: chip_in(&records[CHIP_BYTES..]),
-    }
-}
-
-// The chip written as 12 bytes.
-pub(crate) fn chip_out(chip: Chip, bytes: &mut [u8])
-    requires { ⌜ length (now bytes) ≡ 12 ⌝ }
-    ensures { λ _. ⌜ now (bytes .exit) ≡ chipBytes chip ⌝ }
-{
     let latch = chip.latch;
     bytes[0] = bit(chip.display_on);
     bytes[1] = bit(chip.static_on);
@@ -149,14 +125,4 @@ pub(crate) fn chip_out(chip: Chip, bytes: &mut [u8])
     bytes[9] = mark(latch);
     bytes[10] = latch.byte();
     bytes[11] = 0;
-}
-
-// Two chips as records, left before right.
-pub fn chips_bytes(left: Chip, right: Chip) -> Records
-    ensures { λ r. ⌜ r ≡ chipsBytes left right ⌝ }
-{
-    let mut records = [0u8; CHIPS_BYTES];
-    chip_out(left, &mut records[..CHIP_BYTES]);
-    chip_out(right, &mut records[CHIP_BYTES..]);
-    records
 }

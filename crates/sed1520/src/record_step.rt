@@ -1,16 +1,13 @@
-// A bus record given to the chip record that it names. The actions are the chip's own; each stores only the bytes of the
-// record that it may change.
+// A bus record given to the 12 bytes of a chip and its own 320 bytes of RAM. The actions are the chip's own; each stores only
+// the bytes that it may change.
 ghost use mathlib.Core.Path.{_≡_};
 ghost use lib.ListN.{length};
 ghost use Rattle.sed1520.specs.ChipRecord.{registersIn};
 ghost use Rattle.sed1520.specs.Cycle.{commandWrite, dataWrite, dataRead};
-ghost use Rattle.sed1520.specs.RecordStep.{bare, bareRefusal, acted, readBytes, commandBytes, written, actionOn, stepRecords};
-ghost use Rattle.basics.specs.Halves.{startOf};
+ghost use Rattle.sed1520.specs.RecordStep.{bare, bareRefusal, acted, readBytes, commandBytes, written, actionOn, stepBytes};
 use crate::actions::Answer;
-use crate::bus::IMAGE_BYTES;
 use crate::bus::Record;
 use crate::chip_record::CHIP_BYTES;
-use crate::chip_record::CHIPS_BYTES;
 use crate::chip_record::chip_out;
 use crate::chip_record::mark;
 use crate::chip_record::registers_in;
@@ -104,35 +101,21 @@ fn act(lines: u8, byte: u8, bytes: &mut [u8], ram: &mut [u8]) -> BareAnswer
     }
 }
 
-// Where a chip's part of two parts begins.
-fn start_of(chip: u8, size: usize) -> usize
-    ensures { λ r. ⌜ r ≡ startOf size chip ⌝ }
+// Gives a bus record to the 12 bytes of a chip and its own 320 bytes of RAM. This is no cycle: it refuses wrong lengths by
+// number 1 and wrong bus records by numbers 4 to 8 and 14, but it does not test the chip (number 2). It is for a caller
+// that has tested it once, as the replay does.
+pub fn step_of_tested_bytes(bus: Record, bytes: &mut [u8], ram: &mut [u8]) -> BareAnswer
+    ensures { λ r. ⌜ acted r (now (bytes .exit)) (now (ram .exit)) ≡ stepBytes bus (now (bytes .entry)) (now (ram .entry)) ⌝ }
 {
-    if chip == 0 { 0 } else { size }
-}
-
-// Gives a bus record to the chip record that it names, with that chip's part of the image. This is no cycle: it refuses
-// wrong lengths by number 1 and wrong bus records by numbers 4 to 8 and 14, but it does not test the chip records
-// (number 2). It is for a caller that has tested both once, as the replay does.
-pub fn step_of_tested_records(bus: Record, chips: &mut [u8], ram: &mut [u8]) -> BareAnswer
-    ensures { λ r. ⌜ acted r (now (chips .exit)) (now (ram .exit)) ≡ stepRecords bus (now (chips .entry)) (now (ram .entry)) ⌝ }
-{
-    if chips.len() != CHIPS_BYTES {
+    if bytes.len() != CHIP_BYTES {
         return refused(1);
     }
-    if ram.len() != IMAGE_BYTES {
+    if ram.len() != Chip::RAM_WIDTH {
         return refused(1);
     }
     let number = bus.refusal();
     if number != 0 {
         return refused(number);
     }
-    let from = start_of(bus.chip, CHIP_BYTES);
-    let start = start_of(bus.chip, Chip::RAM_WIDTH);
-    act(
-        bus.lines,
-        bus.byte,
-        &mut chips[from..from + CHIP_BYTES],
-        &mut ram[start..start + Chip::RAM_WIDTH],
-    )
+    act(bus.lines, bus.byte, bytes, ram)
 }

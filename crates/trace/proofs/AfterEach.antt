@@ -7,19 +7,19 @@ use lib.ListN.{length, getD, take, drop}
 use lib.Seq.{length-take-le}
 use Rattle.basics.specs.Run.{ranTo}
 use Rattle.basics.proofs.Run.{run-prefix, answers-bound, Next, run-next}
-use Rattle.sed1520.specs.Panel.{Panel, outcomeOf, stepped, panelTurn, after}
+use Rattle.panel.specs.Panel.{Panel, outcomeOf, stepped, panelTurn, after}
 use Rattle.sed1520.specs.Records.{front, wholeRecords}
 use Rattle.sed1520.proofs.Records.{records-length, record-at, records-prefix}
-use Rattle.trace.specs.Replay.{ended, replayOf}
+use Rattle.trace.specs.Replay.{panelAfter, ended, replayOf}
 use Rattle.trace.specs.Promises.{Runs, repliesOf, AfterEach, AfterEachRecord}
 use Rattle.trace.proofs.Counts.{differing-prefix}
-use Rattle.trace.proofs.ReplayCases.{runs}
+use Rattle.trace.proofs.ReplayNumbers.{runs}
 
 -- no more replies than the trace has records
 pub replies-bound : (p : Panel) (trace : List ℕ) → length (repliesOf p trace) ≤ length trace / 4
 replies-bound p trace = omega (arith, answers-bound panelTurn (wholeRecords trace) p, records-length (length trace / 4) trace)
 
-module _ (p : Panel) (trace answers : List ℕ) (r : Runs p trace answers) (k : ℕ) (h : k ≤ replayOf p trace answers .place) where
+module _ (p : Panel) (trace answers : List ℕ) (r : Runs p trace answers) (k : ℕ) (h : k ≤ replayOf p trace answers .answer .place) where
   replied-to : k ≤ length (repliesOf p trace)
   unfolding ended
   replied-to = rw (runs p trace answers r) at h
@@ -52,24 +52,24 @@ module _ (p : Panel) (trace answers : List ℕ) (r : Runs p trace answers) (k : 
   replied-length : length (take k (repliesOf p trace)) ≡ k
   replied-length = length-take-le k (repliesOf p trace) replied-to
 
-  pub panel-then : replayOf p (take (4 * k) trace) answers .panel ≡ after p (take k (wholeRecords trace))
+  pub panel-then : panelAfter (replayOf p (take (4 * k) trace) answers) ≡ after p (take k (wholeRecords trace))
   unfolding ended
   panel-then = rw prefix
 
-module _ (p : Panel) (trace answers : List ℕ) (r : Runs p trace answers) (k : ℕ) (h : k ≤ replayOf p trace answers .place) where
+module _ (p : Panel) (trace answers : List ℕ) (r : Runs p trace answers) (k : ℕ) (h : k ≤ replayOf p trace answers .answer .place) where
   -- the record at k
-  module _ (l : k < replayOf p trace answers .place) where
+  module _ (l : k < replayOf p trace answers .answer .place) where
     on-records : Next panelTurn (front []) k (wholeRecords trace) p
     on-records = run-next panelTurn (front []) k (wholeRecords trace) p (replied-to p trace answers r (suc k) l)
 
     there : getD (wholeRecords trace) k (front []) ≡ front (drop (4 * k) trace)
     there = record-at (length trace / 4) k trace (front []) (omega (arith, recorded p trace answers r (suc k) l))
 
-    answer : let a = outcomeOf (replayOf p (take (4 * k) trace) answers .panel) (front (drop (4 * k) trace)) .answer in
+    answer : let a = outcomeOf (panelAfter (replayOf p (take (4 * k) trace) answers)) (front (drop (4 * k) trace)) .answer in
         (a .number ≡ 0) × (take (suc k) (repliesOf p trace) ≡ take k (repliesOf p trace) ++ (record { kind = a .kind; byte = a .byte } ∷ []))
     answer = rw (panel-then p trace answers r k h, ← there) (on-records .accepted, on-records .answer)
 
-    next : replayOf p (take (4 * suc k) trace) answers .panel ≡ stepped (replayOf p (take (4 * k) trace) answers .panel) (front (drop (4 * k) trace))
+    next : panelAfter (replayOf p (take (4 * suc k) trace) answers) ≡ stepped (panelAfter (replayOf p (take (4 * k) trace) answers)) (front (drop (4 * k) trace))
     next = rw (panel-then p trace answers r (suc k) l, panel-then p trace answers r k h, ← there) (on-records .state)
 
   pub after-each : AfterEach p trace answers k

@@ -1,7 +1,7 @@
 -- A trace given in parts, opened and closed, is as replayed.
 use Prim.Native.Nat.{ℕ, _*_, _/_, _%_, _≤_}
 use native.Mathlib.Omega.{arith}
-use mathlib.Core.Path.{_≡_, refl, sym, _∙_}
+use mathlib.Core.Path.{_≡_, sym, ap, _∙_}
 use mathlib.Core.Bool.{true}
 use mathlib.Core.List.{List, [], _∷_, flatMap}
 use mathlib.Core.Logic.{⊎-elim}
@@ -10,20 +10,21 @@ use lib.ListN.{length, drop, length-append}
 use lib.Seq.{take-at}
 use borrow.Author.Tests.{eqb-true, eqb-false, eq-eqb, ne-eqb}
 use Rattle.basics.specs.Choice.{if}
-use Rattle.basics.proofs.Tests.{tested, when}
-use Rattle.sed1520.specs.Laws.{Whole}
-use Rattle.sed1520.specs.Panel.{Panel}
-use Rattle.trace.specs.Replay.{ended, repliesBytes, traceRun}
-use Rattle.trace.specs.Feed.{stoppedWith, openClose, closeOf}
+use Rattle.basics.proofs.Tests.{tested}
+use Rattle.panel.specs.Panel.{Whole}
+use Rattle.panel.specs.Panel.{Panel}
+use Rattle.panel.specs.Trace.{traceRun}
+use Rattle.trace.specs.Replay.{ended, repliesBytes}
+use Rattle.trace.specs.Feed.{stoppedWith, closeOf}
 use Rattle.trace.specs.FeedPromises.{Part, joinedBytes, feedAfter, fedAfter, Short, AtAnyCut, ClosesAfter, FeedsClose}
 use Rattle.trace.specs.declared.feed.Feed.{Feed}
-use Rattle.trace.proofs.FeedCases.{right-state, closes, close-whole, close-cut}
+use Rattle.trace.proofs.FeedCases.{right-state, closes, close-passed}
 use Rattle.trace.proofs.EveryRun.{every-run}
 use Rattle.trace.proofs.Feeding.{state-after}
 use Rattle.trace.proofs.Feeds.{feeds-run, fitting-taken}
 use Rattle.trace.proofs.Joined.{replies-length}
 use Rattle.trace.proofs.KeptOver.{cut-off-length}
-use Rattle.trace.proofs.ReplayCases.{runs}
+use Rattle.trace.proofs.ReplayNumbers.{runs}
 
 -- parts of a short trace are short
 short-parts : (xs : List Part) → length (joinedBytes xs) ≤ 65536 → Short xs
@@ -49,11 +50,8 @@ module _ (p : Panel) (whole : Whole p) (bytes : List ℕ) (done : traceRun p byt
 
   closed : closeOf f ≡ stoppedWith f (if (eqb (length bytes % 4) 0) 0 3)
   closed =
-      let right = right-state f (state-after p whole bytes done) in
-      closes f (rw is-open) ∙ sym (rw (← kept)
-      (when (λ (n : ℕ). stoppedWith f n ≡ openClose f) (eqb (f .progress .kept) 0)
-      (λ z. close-whole f _ refl right (eqb-true _ 0 z))
-      (λ z. close-cut f _ refl right (eqb-false _ 0 z))))
+      closes f (rw is-open) ∙ close-passed f (right-state f (state-after p whole bytes done))
+      ∙ ap (λ n. stoppedWith f (if (eqb n 0) 0 3)) kept
 
   closes-after : ClosesAfter p bytes
   closes-after = record { told = rw closed (rw answered); left = rw closed; right = rw closed }

@@ -1,23 +1,22 @@
 -- The place and the counts of any replay are at most the records that a trace can have.
-use Prim.Native.Nat.{ℕ, _/_, _≤_, _%_}
+use Prim.Native.Nat.{ℕ, _/_, _≤_}
 use native.Mathlib.Omega.{arith}
 use mathlib.Core.Path.{_≡_}
-use mathlib.Core.Bool.{not}
+use mathlib.Core.Bool.{Bool}
 use mathlib.Core.List.{List}
-use lib.Dec.{eqb}
 use lib.ListN.{length}
-use Rattle.sed1520.specs.Chip.{inRange}
-use Rattle.sed1520.specs.ChipRecord.{panelIn}
-use Rattle.sed1520.specs.Panel.{Panel}
-use Rattle.basics.proofs.Tests.{when}
+use Rattle.basics.proofs.Table.{EachLine, each-line, of-first}
+use Rattle.sed1520.specs.Chip.{outOfRange}
 use Rattle.sed1520.specs.Records.{wholeRecords}
-use Rattle.trace.specs.Replay.{ReplayOutcome, refusedAt, ended, endedBytes, replaySizesWrong, replayOf}
+use Rattle.panel.specs.Chips.{panelIn}
+use Rattle.panel.specs.Panel.{Panel}
+use Rattle.trace.specs.Replay.{ReplayOutcome, refusedAt, ended, endedBytes, replayTable, replayOf}
+use Rattle.trace.specs.Replay.{InPlace, inPlace, ranNothing, replayBytesTable, replayInPlace}
 use Rattle.trace.specs.Promises.{repliesOf}
-use Rattle.trace.specs.Replay.{InPlace, ranAs, replayInPlace}
 use Rattle.trace.specs.declared.Ran.{Ran}
 use Rattle.trace.proofs.AfterEach.{replies-bound}
-use Rattle.trace.proofs.ReplayCases.{sizes-right}
 use Rattle.trace.proofs.Counts.{compared-bound, differing-bound}
+use Rattle.trace.proofs.ReplayNumbers.{table, sizes-right}
 
 pub record Few (most place compared differing : ℕ) : Type 0 where
   pub place-few : place ≤ most
@@ -26,7 +25,7 @@ pub record Few (most place compared differing : ℕ) : Type 0 where
 
 -- of an outcome
 abbrev FewOf : ℕ → ReplayOutcome → Type 0
-FewOf most o = Few most (o .place) (o .compared) (o .differing)
+FewOf most o = Few most (o .answer .place) (o .answer .compared) (o .answer .differing)
 
 abbrev Bounded : ReplayOutcome → Type 0
 Bounded o = FewOf 16384 o
@@ -44,7 +43,7 @@ ended-few p bytes answers =
     }
 
 pub ran-few : {r : Ran} (p : Panel) (bytes answers : List ℕ) → let o = endedBytes p bytes answers in
-    r ≡ ranAs o → Few (length bytes / 4) (r .place) (r .compared) (r .differing)
+    r ≡ o .answer → Few (length bytes / 4) (r .place) (r .compared) (r .differing)
 ran-few p bytes answers e = rw e (ended-few p bytes answers)
 
 ended-bounded : (p : Panel) (trace answers : List ℕ) → length trace ≤ 65536 → Bounded (endedBytes p trace answers)
@@ -59,15 +58,20 @@ ended-bounded p trace answers h =
 refused-bounded : (n at : ℕ) (p : Panel) (answers : List ℕ) → at ≤ 16384 → Bounded (refusedAt n at p answers)
 refused-bounded n at p answers h = record { place-few = h; compared-few = omega arith; differing-few = omega arith }
 
+-- the places of numbers 1 to 3 are few
+few-places : (left right : Bool) (trace ram answers : ℕ) → EachLine (λ n at. at ≤ 16384) (replayTable left right trace ram answers)
+few-places left right trace ram answers =
+    (
+      (λ _. omega arith, λ sizes. let right = sizes-right trace (trace / 4) ram answers sizes in
+      (λ _. omega arith, λ _. (λ _. omega arith, λ _. (λ _. omega (arith, right .short), λ _. tt)))))
+
 pub replay-bounded : (p : Panel) (trace answers : List ℕ) → Bounded (replayOf p trace answers)
 unfolding replayOf
 replay-bounded p trace answers =
-    when Bounded (replaySizesWrong (length trace) (length (p .ram)) (length answers)) (λ _. refused-bounded 1 0 p answers (omega arith))
-    (λ sizes. let right = sizes-right (length trace) (length trace / 4) (length (p .ram)) (length answers) sizes in
-    when Bounded (not (inRange (p .left))) (λ _. refused-bounded 2 0 p answers (omega arith))
-    (λ _. when Bounded (not (inRange (p .right))) (λ _. refused-bounded 2 1 p answers (omega arith))
-    (λ _. when Bounded (not (eqb (length trace % 4) 0)) (λ _. refused-bounded 3 (length trace / 4) p answers (omega arith))
-    (λ _. ended-bounded p trace answers (right .short)))))
+    let lines = few-places (outOfRange (p .left)) (outOfRange (p .right)) (length trace) (length (p .ram)) (length answers) in
+    each-line (λ n at. refusedAt n at p answers) (endedBytes p trace answers) Bounded (table p trace answers)
+    (λ n at first. refused-bounded n at p answers (of-first (λ n at. at ≤ 16384) (table p trace answers) lines n at first))
+    (λ none. ended-bounded p trace answers (sizes-right (length trace) (length trace / 4) (length (p .ram)) (length answers) (none .0) .short))
 
 -- so they are over chip records
 abbrev BoundedRan : InPlace Ran → Type 0
@@ -76,6 +80,10 @@ BoundedRan i = Few 16384 (i .answer .place) (i .answer .compared) (i .answer .di
 pub in-place-bounded : (chips ram trace answers : List ℕ) → BoundedRan (replayInPlace chips ram trace answers)
 unfolding replayInPlace
 in-place-bounded chips ram trace answers =
-    when BoundedRan (not (eqb (length chips) 24))
-    (λ _. refused-bounded 1 0 (panelIn chips ram) answers (omega arith))
-    (λ _. replay-bounded (panelIn chips ram) trace answers)
+    let sizes = replayBytesTable chips (length trace) (length ram) (length answers) in
+    let lines : EachLine (λ n at. at ≤ 16384) sizes = (λ _. omega arith, λ _. few-places _ _ (length trace) (length ram) (length answers)) in
+    each-line (λ n at. inPlace (ranNothing n at) chips ram answers) _ BoundedRan sizes
+    (λ n at first.
+    refused-bounded n at (panelIn chips ram) answers (of-first (λ n at. at ≤ 16384) sizes lines n at first))
+    (λ none.
+    ended-bounded (panelIn chips ram) trace answers (sizes-right (length trace) (length trace / 4) (length ram) (length answers) (none .1 .0) .short))

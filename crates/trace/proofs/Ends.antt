@@ -6,13 +6,14 @@ use mathlib.Core.List.{List, []}
 use lib.ListN.{length}
 use lib.Seq.{take-length}
 use Rattle.basics.proofs.Run.{RunEnds, run-ends}
-use Rattle.sed1520.specs.Panel.{Panel, panelTurn}
+use Rattle.panel.specs.Panel.{Panel, panelTurn}
 use Rattle.sed1520.specs.Records.{front, wholeRecords}
 use Rattle.sed1520.proofs.Records.{records-length, record-at}
-use Rattle.trace.specs.Replay.{traceRun, ended, replayOf}
+use Rattle.panel.specs.Trace.{traceRun}
+use Rattle.trace.specs.Replay.{ended, replayOf}
 use Rattle.trace.specs.Promises.{Runs, repliesOf, Ends, EveryReplayEnds}
 use Rattle.trace.proofs.AfterEach.{after-each}
-use Rattle.trace.proofs.ReplayCases.{runs}
+use Rattle.trace.proofs.ReplayNumbers.{runs}
 
 module _ (p : Panel) (trace answers : List ℕ) (r : Runs p trace answers) where
   abbrev run : RunEnds panelTurn (front []) p (wholeRecords trace)
@@ -25,7 +26,7 @@ module _ (p : Panel) (trace answers : List ℕ) (r : Runs p trace answers) where
   unfolding ended
   ends =
       let whole = runs p trace answers r in
-      let before = after-each p trace answers r (replayOf p trace answers .place) (omega arith) in
+      let before = after-each p trace answers r (replayOf p trace answers .answer .place) (omega arith) in
       record {
         as-before =
             rw (before .compared, before .differing, before .panel, before .answers-then)

@@ -6,9 +6,9 @@ use mathlib.Core.List.{List, []}
 use lib.ListN.{length, take}
 use lib.Seq.{length-take-le}
 use Rattle.basics.proofs.Run.{run-prefix, run-next, run-ends}
-use Rattle.sed1520.specs.Panel.{Panel, panelTurn}
+use Rattle.panel.specs.Panel.{Panel, panelTurn}
 use Rattle.sed1520.specs.Records.{front, wholeRecords}
-use Rattle.sed1520.proofs.PanelLaws.{after-whole}
+use Rattle.panel.proofs.PanelLaws.{after-whole}
 use Rattle.sed1520.proofs.Records.{records-length, record-at, records-prefix}
 use Rattle.trace.specs.Promises.{repliesOf}
 use Rattle.trace.specs.FeedPromises.{EachRecord, RunEnded, EveryRun}

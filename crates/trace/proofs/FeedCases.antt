@@ -1,23 +1,29 @@
--- What the numbers of a feed's calls tell, and each call past them as an equation.
+-- The tables of a feed's calls: what holds where no line refuses, and each call by its table.
 use Prim.Native.Nat.{ℕ, _+_, _≤_}
 use native.Mathlib.Omega.{arith}
-use mathlib.Core.Path.{_≡_, refl}
+use mathlib.Core.Path.{_≡_, refl, ap}
 use mathlib.Core.Bool.{true, false, not}
 use mathlib.Core.List.{List}
-use lib.Dec.{ltb}
-use borrow.Author.Tests.{le-ltb, ltb-false, eq-eqb, ne-eqb, not-false}
-use Rattle.basics.proofs.Tests.{neither, when}
+use lib.Dec.{ltb, eqb}
+use lib.ListN.{length}
+use borrow.Author.Tests.{le-ltb, ltb-false, not-false}
+use Rattle.basics.specs.Choice.{if}
+use Rattle.basics.specs.Table.{First, NoneHolds}
+use Rattle.basics.specs.Verdict.{verdict}
+use Rattle.basics.specs.declared.verdict.Verdict.{Verdict}
+use Rattle.basics.proofs.Table.{first-refuses, none-refuses, each-line, of-first, refusing-line, passing-table}
+use Rattle.basics.proofs.Tests.{neither}
 use Rattle.sed1520.specs.Chip.{inRange}
-use Rattle.sed1520.specs.Verdict.{verdict}
 use Rattle.sed1520.specs.declared.registers.Chip.{Chip}
-use Rattle.sed1520.specs.declared.verdict.Verdict.{Verdict}
-use Rattle.trace.specs.Replay.{sizesWrong}
-use Rattle.trace.specs.Feed.{begun, completedBy, tooMany, progressWrong, feedOf, stateVerdict, partVerdict, fedWith, openOf}
-use Rattle.trace.specs.Feed.{unlessStopped, openPart, partOf, stoppedWith, openClose, closeOf}
+use Rattle.panel.specs.Panel.{panelOf}
+use Rattle.trace.specs.Replay.{endedBytes, sizesWrong}
+use Rattle.trace.specs.Feed.{begun, joinedTo, completedBy, tooMany, progressWrong, feedOf, feedTable, partTable, stateVerdict, partVerdict, fedWith}
+use Rattle.trace.specs.Feed.{openOf, unlessStopped, notTaken, tookPart, openPart, partOf, stoppedWith, openClose, closeOf}
+use Rattle.trace.specs.FeedPromises.{refusesPart}
 use Rattle.trace.specs.declared.progress.Ending.{Ending}
 use Rattle.trace.specs.declared.progress.Ending.the-variants.{Open, Stopped}
 use Rattle.trace.specs.declared.feed.Feed.{Feed}
-use Rattle.trace.proofs.ReplayCases.{Sizes, sizes-right, right-sizes}
+use Rattle.trace.proofs.ReplayNumbers.{Sizes, sizes-right, right-sizes}
 
 -- number 2 has no cause
 pub record StateRight (f : Feed) : Type 0 where
@@ -33,108 +39,126 @@ pub record PartRight (f : Feed) (ram part answers : ℕ) : Type 0 where
   pub countable : f .progress .records + completedBy (f .progress .kept) part ≤ 4294967295
   pub state : StateRight f
 
-found : (f : Feed) → not (inRange (f .left)) ≡ false → not (inRange (f .right)) ≡ false → progressWrong (f .progress) ≡ false → StateRight f
+pub state-right : (f : Feed) → NoneHolds (feedTable f) → StateRight f
 unfolding progressWrong
-found f l r w =
+state-right f none =
     let t = f .progress in
-    let kept = neither (ltb 3 (t .kept)) _ w in
+    let kept = neither (ltb 3 (t .kept)) _ (none .1 .1 .0) in
     let counts = neither (ltb (t .records) (t .compared)) (ltb (t .compared) (t .differing)) (kept .1) in
     record {
-      left = not-false (inRange (f .left)) l;
-      right = not-false (inRange (f .right)) r;
+      left = not-false (inRange (f .left)) (none .0);
+      right = not-false (inRange (f .right)) (none .1 .0);
       few = ltb-false 3 (t .kept) (kept .0);
       compared = ltb-false (t .records) (t .compared) (counts .0);
       differing = ltb-false (t .compared) (t .differing) (counts .1);
     }
 
--- what follows where a verdict is 0
-abbrev pub Passes : Type 0 → Verdict → Type 0
-Passes P v = v .number ≡ 0 → P
-
-pub state-right : (f : Feed) → stateVerdict f .number ≡ 0 → StateRight f
-unfolding stateVerdict
-state-right f =
-    when (Passes (StateRight f)) (not (inRange (f .left))) (λ _ e. absurd (omega arith))
-    (λ l. when (Passes (StateRight f)) (not (inRange (f .right))) (λ _ e. absurd (omega arith))
-    (λ r. when (Passes (StateRight f)) (progressWrong (f .progress)) (λ _ e. absurd (omega arith)) (λ w e. found f l r w)))
-
-pub right-state : (f : Feed) → StateRight f → stateVerdict f .number ≡ 0
-unfolding stateVerdict progressWrong
+pub right-state : (f : Feed) → StateRight f → NoneHolds (feedTable f)
+unfolding progressWrong
 right-state f s =
     let t = f .progress in
-    rw (s .left, s .right, le-ltb 3 (t .kept) (s .few))
-    (rw (le-ltb (t .records) (t .compared) (s .compared), le-ltb (t .compared) (t .differing) (s .differing)))
+    (ap not (s .left), (ap not (s .right), (rw (le-ltb 3 (t .kept) (s .few), le-ltb (t .records) (t .compared) (s .compared))
+    (le-ltb (t .compared) (t .differing) (s .differing)), tt)))
 
--- what holds of each verdict that a state can have, and of each that a part can have before it
-module _ (P : Verdict → Type 0) (f : Feed) where
-  pub each-state : P (verdict 2 0) → P (verdict 2 1) → P (verdict 2 3) → P (verdict 0 0) → P (stateVerdict f)
-  unfolding stateVerdict
-  each-state left right own none =
-      when P (not (inRange (f .left))) (λ _. left)
-      (λ _. when P (not (inRange (f .right))) (λ _. right)
-      (λ _. when P (progressWrong (f .progress)) (λ _. own) (λ _. none)))
+-- number 2 is the only one of a feed, at places up to 3
+pub state-two : (f : Feed) (n at : ℕ) → First (feedTable f) n at → n ≡ 2
+state-two f = of-first (λ n at. n ≡ 2) (feedTable f) (λ _. refl, λ _. (λ _. refl, λ _. (λ _. refl, λ _. tt)))
 
-  pub each-part : (ram part answers : ℕ) → P (verdict 1 0) → P (verdict 13 0) → P (stateVerdict f) → P (partVerdict f ram part answers)
-  unfolding partVerdict
-  each-part ram part answers size many state =
-      let more = completedBy (f .progress .kept) part in
-      when P (sizesWrong part more ram answers) (λ _. size) (λ _. when P (tooMany (f .progress .records) more) (λ _. many) (λ _. state))
+pub state-low : (f : Feed) (n at : ℕ) → First (feedTable f) n at → at ≤ 3
+state-low f = of-first (λ n at. at ≤ 3) (feedTable f) (λ _. omega arith, λ _. (λ _. omega arith, λ _. (λ _. omega arith, λ _. tt)))
 
 pub state-place : (f : Feed) → stateVerdict f .place ≤ 3
-state-place f = each-state (λ (v : Verdict). v .place ≤ 3) f (omega arith) (omega arith) (omega arith) (omega arith)
+unfolding stateVerdict
+state-place f = each-line verdict (verdict 0 0) (λ (v : Verdict). v .place ≤ 3) (feedTable f) (state-low f) (λ _. omega arith)
+
+-- code that computes the verdict first
+module _ (f : Feed) (v : Verdict) (e : v ≡ stateVerdict f) where
+  pub state-line : (v .number ≡ 0 → ⊥) → First (feedTable f) (v .number) (v .place)
+  unfolding stateVerdict
+  state-line = refusing-line (feedTable f) v 0 e
+
+  pub state-passed : v .number ≡ 0 → NoneHolds (feedTable f)
+  unfolding stateVerdict
+  state-passed = passing-table (feedTable f) v 0 e (λ z. omega arith, (λ z. omega arith, (λ z. omega arith, tt)))
+
+module _ (f : Feed) (ram part answers : ℕ) (v : Verdict) (e : v ≡ partVerdict f ram part answers) where
+  pub part-line : (v .number ≡ 0 → ⊥) → First (partTable f ram part answers) (v .number) (v .place)
+  unfolding partVerdict
+  part-line = refusing-line (partTable f ram part answers) v 0 e
+
+  pub part-passed : v .number ≡ 0 → NoneHolds (partTable f ram part answers)
+  unfolding partVerdict
+  part-passed =
+      passing-table (partTable f ram part answers) v 0 e
+      (λ z. omega arith, (λ z. omega arith, (λ z. omega arith, (λ z. omega arith, (λ z. omega arith, tt)))))
 
 module _ (f : Feed) (ram part answers : ℕ) where
   abbrev more : ℕ
   more = completedBy (f .progress .kept) part
 
-  pub part-right : partVerdict f ram part answers .number ≡ 0 → PartRight f ram part answers
-  unfolding partVerdict
-  part-right =
-      when (Passes (PartRight f ram part answers)) (sizesWrong part more ram answers) (λ _ e. absurd (omega arith))
-      (λ s. when (Passes (PartRight f ram part answers)) (tooMany (f .progress .records) more) (λ _ e. absurd (omega arith))
-      (λ m e. record {
-        sizes = sizes-right part more ram answers s;
-        countable = ltb-false 4294967295 (f .progress .records + more) m;
-        state = state-right f e;
-      }))
+  pub part-right : NoneHolds (partTable f ram part answers) → PartRight f ram part answers
+  part-right none =
+      record {
+        sizes = sizes-right part more ram answers (none .0);
+        countable = ltb-false 4294967295 (f .progress .records + more) (none .1 .0);
+        state = state-right f (none .1 .1);
+      }
 
-  pub right-part : PartRight f ram part answers → partVerdict f ram part answers .number ≡ 0
-  unfolding partVerdict
+  pub right-part : PartRight f ram part answers → NoneHolds (partTable f ram part answers)
   right-part r =
       let s = r .sizes in
-      rw (right-sizes part more ram answers (s .short) (s .image) (s .space), le-ltb 4294967295 (f .progress .records + more) (r .countable))
-      (right-state f (r .state))
+      (right-sizes part more ram answers (s .short) (s .image) (s .space),
+      (le-ltb 4294967295 (f .progress .records + more) (r .countable), right-state f (r .state)))
+
+  -- a part is refused before its first record by 1, 13 or 2
+  pub part-refuses : (n at : ℕ) → First (partTable f ram part answers) n at → refusesPart n ≡ true
+  part-refuses =
+      of-first (λ n at. refusesPart n ≡ true) (partTable f ram part answers)
+      (λ _. refl, λ _. (λ _. refl, λ _. (λ _. refl, λ _. (λ _. refl, λ _. (λ _. refl, λ _. tt)))))
+
+  pub part-low : (n at : ℕ) → First (partTable f ram part answers) n at → at ≤ 3
+  part-low =
+      of-first (λ n at. at ≤ 3) (partTable f ram part answers)
+      (λ _. omega arith, λ _. (λ _. omega arith, λ _. (λ _. omega arith, λ _. (λ _. omega arith, λ _. (λ _. omega arith, λ _. tt)))))
 
   -- the tests one after the other
-  pub part-sizes : sizesWrong part more ram answers ≡ true → partVerdict f ram part answers ≡ record { number = 1; place = 0 }
+  pub part-sizes : sizesWrong part more ram answers ≡ true → partVerdict f ram part answers ≡ verdict 1 0
   unfolding partVerdict
   part-sizes s = rw s
 
   module _ (s : sizesWrong part more ram answers ≡ false) where
-    pub part-many : tooMany (f .progress .records) more ≡ true → partVerdict f ram part answers ≡ record { number = 13; place = 0 }
+    pub part-many : tooMany (f .progress .records) more ≡ true → partVerdict f ram part answers ≡ verdict 13 0
     unfolding partVerdict
     part-many m = rw (s, m)
 
     pub part-state : tooMany (f .progress .records) more ≡ false → partVerdict f ram part answers ≡ stateVerdict f
-    unfolding partVerdict
+    unfolding partVerdict stateVerdict
     part-state m = rw (s, m)
 
 -- the opening
-module _ (left right : Chip) (v : Verdict) (e : v ≡ stateVerdict (feedOf left right (begun Open))) where
-  pub open-refused : (v .number ≡ 0 → ⊥)
-      → fedWith (feedOf left right (begun (Stopped (v .number) (v .place)))) (v .number) (v .place) ≡ openOf left right
-  unfolding openOf
-  open-refused h = rw (← e, ne-eqb (v .number) 0 h)
+module _ (left right : Chip) where
+  abbrev opened : Feed
+  opened = feedOf left right (begun Open)
 
-  pub open-done : v .number ≡ 0 → fedWith (feedOf left right (begun Open)) 0 0 ≡ openOf left right
+  pub open-refused : (n at : ℕ) → First (feedTable opened) n at → openOf left right ≡ fedWith (feedOf left right (begun (Stopped n at))) n at
   unfolding openOf
-  open-done h = rw (← e, eq-eqb (v .number) 0 h)
+  open-refused = first-refuses (λ n at. fedWith (feedOf left right (begun (Stopped n at))) n at) (fedWith opened 0 0) (feedTable opened)
+
+  pub open-done : NoneHolds (feedTable opened) → openOf left right ≡ fedWith opened 0 0
+  unfolding openOf
+  open-done = none-refuses (λ n at. fedWith (feedOf left right (begun (Stopped n at))) n at) (fedWith opened 0 0) (feedTable opened)
 
 -- what holds of a stopped feed's answer and of an open one's
 pub by-ending : {A : Type 0} (P : A → Type 0) (e : Ending) {repeat : ℕ → ℕ → A} {go : A} → ((n at : ℕ) → e ≡ Stopped n at → P (repeat n at))
     → (e ≡ Open → P go) → P (unlessStopped e repeat go)
 by-ending P Open repeated goes = goes refl
 by-ending P (Stopped n at) repeated goes = repeated n at refl
+
+-- a feed that is stopped
+pub stays-stopped : (f : Feed) (ram part answers : List ℕ) (n at : ℕ) → f .progress .ending ≡ Stopped n at
+    → partOf f ram part answers ≡ notTaken f ram answers n at
+unfolding partOf
+stays-stopped f ram part answers n at e = rw e
 
 -- a feed that is open
 pub goes-on : (f : Feed) (ram part answers : List ℕ) → f .progress .ending ≡ Open → partOf f ram part answers ≡ openPart f ram part answers
@@ -145,17 +169,27 @@ pub closes : (f : Feed) → f .progress .ending ≡ Open → closeOf f ≡ openC
 unfolding closeOf
 closes f e = rw e
 
+-- a part given to it
+module _ (f : Feed) (ram part answers : List ℕ) where
+  abbrev bytes : List ℕ
+  bytes = joinedTo (f .progress) part
+
+  pub part-refused : (n at : ℕ) → First (partTable f (length ram) (length part) (length answers)) n at
+      → openPart f ram part answers ≡ notTaken f ram answers n at
+  unfolding openPart
+  part-refused = first-refuses (notTaken f ram answers) _ (partTable f (length ram) (length part) (length answers))
+
+  pub part-taken : NoneHolds (partTable f (length ram) (length part) (length answers))
+      → openPart f ram part answers ≡ tookPart f bytes (endedBytes (panelOf (f .left) (f .right) ram) bytes answers)
+  unfolding openPart
+  part-taken = none-refuses (notTaken f ram answers) _ (partTable f (length ram) (length part) (length answers))
+
 -- its closing
-module _ (f : Feed) (v : Verdict) (e : v ≡ stateVerdict f) where
-  pub close-refused : (v .number ≡ 0 → ⊥) → fedWith f (v .number) (v .place) ≡ openClose f
+module _ (f : Feed) where
+  pub close-refused : (n at : ℕ) → First (feedTable f) n at → openClose f ≡ fedWith f n at
   unfolding openClose
-  close-refused h = rw (← e, ne-eqb (v .number) 0 h)
+  close-refused = first-refuses (fedWith f) _ (feedTable f)
 
-  module _ (h : v .number ≡ 0) where
-    pub close-whole : f .progress .kept ≡ 0 → stoppedWith f 0 ≡ openClose f
-    unfolding openClose
-    close-whole k = rw (← e, eq-eqb (v .number) 0 h, eq-eqb (f .progress .kept) 0 k)
-
-    pub close-cut : (f .progress .kept ≡ 0 → ⊥) → stoppedWith f 3 ≡ openClose f
-    unfolding openClose
-    close-cut k = rw (← e, eq-eqb (v .number) 0 h, ne-eqb (f .progress .kept) 0 k)
+  pub close-passed : NoneHolds (feedTable f) → openClose f ≡ stoppedWith f (if (eqb (f .progress .kept) 0) 0 3)
+  unfolding openClose
+  close-passed = none-refuses (fedWith f) _ (feedTable f)

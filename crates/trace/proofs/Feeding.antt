@@ -1,7 +1,7 @@
 -- One part more: a feed that took some bytes takes the next ones, and is then the feed that took all of them.
 use Prim.Native.Nat.{ℕ, _+_, _-_, _*_, _/_, _%_, _≤_}
 use native.Mathlib.Omega.{arith}
-use mathlib.Core.Path.{_≡_, refl, sym, ap, _∙_}
+use mathlib.Core.Path.{_≡_, refl, sym, ap, subst, _∙_}
 use mathlib.Core.Bool.{true, false, true≢false}
 use mathlib.Core.List.{List, [], _++_, append-nil}
 use mathlib.Core.Logic.{⊎-elim}
@@ -10,42 +10,36 @@ use lib.ListN.{length, drop, length-append}
 use lib.Seq.{take-at}
 use borrow.Author.Tests.{eqb-true, eqb-false, eq-eqb, ne-eqb}
 use Rattle.basics.specs.Run.{Run, ranTo}
+use Rattle.basics.specs.Table.{First, NoneHolds}
 use Rattle.basics.proofs.Lists.{flat-append}
 use Rattle.basics.proofs.Run.{run-ends, run-join, run-cut, answers-bound}
+use Rattle.basics.proofs.Table.{first-or-none}
 use Rattle.basics.proofs.Tests.{tested}
 use Rattle.sed1520.specs.Cycle.{Reply}
-use Rattle.sed1520.specs.Laws.{Whole}
-use Rattle.sed1520.specs.Panel.{Panel, panelTurn, panelRun}
+use Rattle.panel.specs.Panel.{Whole}
+use Rattle.panel.specs.Panel.{Panel, panelTurn, panelRun}
 use Rattle.sed1520.specs.Records.{front, wholeRecords}
-use Rattle.sed1520.specs.declared.verdict.Verdict.{Verdict}
-use Rattle.sed1520.proofs.PanelLaws.{after-whole}
+use Rattle.panel.proofs.PanelLaws.{after-whole}
 use Rattle.sed1520.proofs.Records.{records-length}
-use Rattle.trace.specs.Replay.{comparedIn, differingIn, replyBytes, repliesBytes, ended, endedBytes, traceRun, ranOf}
-use Rattle.trace.specs.Feed.{keeping, cutOff, joinedTo, completedBy, feedOf, partVerdict, PartOutcome}
-use Rattle.trace.specs.Feed.{notTaken, movedOn, tookPart, openPart, partOf}
+use Rattle.panel.specs.Trace.{traceRun}
+use Rattle.trace.specs.Replay.{comparedIn, differingIn, replyBytes, repliesBytes, ended, endedBytes, ranOf}
+use Rattle.trace.specs.Feed.{keeping, cutOff, joinedTo, completedBy, feedOf, partTable, PartOutcome, fedBy}
+use Rattle.trace.specs.Feed.{notTaken, movedOn, tookPart, partOf}
 use Rattle.trace.specs.FeedPromises.{Part, given, answersOf, refusesPart, feedAfter, fedAfter}
 use Rattle.trace.specs.declared.progress.Progress.{Progress}
 use Rattle.trace.specs.declared.progress.Ending.the-variants.{Open, Stopped}
 use Rattle.trace.specs.declared.feed.Feed.{Feed}
 use Rattle.trace.specs.declared.feed.Fed.{Fed}
 use Rattle.trace.proofs.Counts.{compared-bound, compared-join, differing-compared, differing-join, differing-front}
-use Rattle.trace.proofs.FeedCases.{StateRight, right-part, each-state, each-part}
+use Rattle.trace.proofs.FeedCases.{StateRight, right-part, part-refuses, part-refused, part-taken}
 use Rattle.trace.proofs.Joined.{replies-length}
 use Rattle.trace.proofs.KeptOver.{cut-off-length, cut-off-on, records-on, kept-back}
 
--- the numbers of a part before its first record
-abbrev pub Refuses : Verdict → Type 0
-Refuses v = eqb (v .number) 0 ≡ false → refusesPart (v .number) ≡ true
-
-pub refuses-part : (f : Feed) (ram part answers : ℕ) → Refuses (partVerdict f ram part answers)
-refuses-part f ram part answers =
-    each-part Refuses f ram part answers (λ _. refl) (λ _. refl)
-    (each-state Refuses f (λ _. refl) (λ _. refl) (λ _. refl) (λ e. absurd (true≢false e)))
-
 -- what a part that is taken leaves: what it gives back, the image, and its own answers
 pub record Takes (f : Feed) (ram : List ℕ) (x : Part) (before after : Run Panel Reply) (bytes : List ℕ) : Type 0 where
-  pub fed : given f ram x .fed ≡ fedAfter after bytes
-  pub image : given f ram x .ram ≡ after .state .ram
+  pub ran : given f ram x .answer ≡ fedAfter after bytes .ran
+  pub feed : given f ram x .lent .state ≡ fedAfter after bytes .feed
+  pub image : given f ram x .lent .ram ≡ after .state .ram
   pub answers : repliesBytes (before .answers) ++ answersOf f (given f ram x) ≡ repliesBytes (after .answers)
 
 module _ (p : Panel) (bytes : List ℕ) (x : Part) where
@@ -83,8 +77,9 @@ module _ (p : Panel) (bytes : List ℕ) (x : Part) where
     takes-nothing =
         let none : 2 * (length (before .answers) - length (before .answers)) ≡ 0 = omega arith in
         record {
-          fed = ap (λ (o : PartOutcome). o .fed) stopped-part ∙ sym same-fed;
-          image = ap (λ (o : PartOutcome). o .ram) stopped-part ∙ rw same-run;
+          ran = ap (λ (o : PartOutcome). o .answer) stopped-part ∙ sym (ap (λ (d : Fed). d .ran) same-fed);
+          feed = ap (λ (o : PartOutcome). o .lent .state) stopped-part ∙ sym (ap (λ (d : Fed). d .feed) same-fed);
+          image = ap (λ (o : PartOutcome). o .lent .ram) stopped-part ∙ rw same-run;
           answers = rw stopped-part (rw (none, same-run) (append-nil (repliesBytes (before .answers))));
         }
 
@@ -127,16 +122,14 @@ module _ (p : Panel) (bytes : List ℕ) (x : Part) where
     abbrev g : Feed
     g = feedOf (before .state .left) (before .state .right) t
 
-    module _ (right : partVerdict g (length (before .state .ram)) (length (x .bytes)) (length (x .buffer)) .number ≡ 0) where
+    module _ (none : NoneHolds (partTable g (length (before .state .ram)) (length (x .bytes)) (length (x .buffer)))) where
       part-is : given f (before .state .ram) x ≡ tookPart g next (endedBytes (before .state) next (x .buffer))
-      unfolding partOf openPart t
-      part-is =
-          let verdict = partVerdict g (length (before .state .ram)) (length (x .bytes)) (length (x .buffer)) .number in
-          rw still-open (rw (eq-eqb verdict 0 right, joined-next))
+      unfolding partOf t
+      part-is = rw still-open (rw joined-next at (part-taken g (before .state .ram) (x .bytes) (x .buffer) none))
 
-      takes-fed : given f (before .state .ram) x .fed ≡ fedAfter after (bytes ++ x .bytes)
+      takes-fed : fedBy (given f (before .state .ram) x) ≡ fedAfter after (bytes ++ x .bytes)
       unfolding ended
-      takes-fed = ap (λ (o : PartOutcome). o .fed) part-is ∙ rw moved (rw run-on)
+      takes-fed = ap fedBy part-is ∙ rw moved (rw run-on)
 
       -- its answers stand at the front of its buffer
       own-answers : answersOf f (given f (before .state .ram) x) ≡ repliesBytes (second .answers)
@@ -144,7 +137,7 @@ module _ (p : Panel) (bytes : List ℕ) (x : Part) where
       own-answers =
           let a = length (before .answers) in
           let b = length (second .answers) in
-          let buffer = ap (λ (o : PartOutcome). o .answers) part-is in
+          let buffer = ap (λ (o : PartOutcome). o .lent .answers) part-is in
           let count = rw run-on at (ap (λ (d : Fed). d .feed .progress .records) takes-fed) in
           let behind : 2 * (a + b - a) ≡ 2 * b = omega arith in
           rw (buffer, count) (rw (length-append (before .answers) (second .answers), behind)
@@ -154,36 +147,42 @@ module _ (p : Panel) (bytes : List ℕ) (x : Part) where
       unfolding ended
       takes-all =
           record {
-            fed = takes-fed;
-            image = ap (λ (o : PartOutcome). o .ram) part-is ∙ rw run-on;
+            ran = ap (λ (d : Fed). d .ran) takes-fed;
+            feed = ap (λ (d : Fed). d .feed) takes-fed;
+            image = ap (λ (o : PartOutcome). o .lent .ram) part-is ∙ rw run-on;
             answers = rw (own-answers, run-on) (sym (flat-append replyBytes (before .answers) (second .answers)));
           }
 
     -- refused before the first record
-    refused-first : eqb (partVerdict g (length (before .state .ram)) (length (x .bytes)) (length (x .buffer)) .number) 0 ≡ false
-        → refusesPart (given f (before .state .ram) x .fed .ran .number) ≡ true
-    unfolding partOf openPart t
-    refused-first e = rw still-open (rw e (refuses-part g _ _ _ e))
+    refused-first : (n at : ℕ) → First (partTable g (length (before .state .ram)) (length (x .bytes)) (length (x .buffer))) n at
+        → refusesPart (given f (before .state .ram) x .answer .number) ≡ true
+    unfolding partOf t
+    refused-first n at first =
+        rw still-open (rw (part-refused g (before .state .ram) (x .bytes) (x .buffer) n at first) (part-refuses g _ _ _ n at first))
+
+  -- nothing refuses the part before its first record
+  abbrev Passes : Feed → Type 0
+  Passes q = NoneHolds (partTable q (length (before .state .ram)) (length (x .bytes)) (length (x .buffer)))
 
   -- where nothing refuses it before its first record
   pub takes-if : (before .number ≡ 0
-      → partVerdict (feedAfter before bytes) (length (before .state .ram)) (length (x .bytes)) (length (x .buffer)) .number ≡ 0)
+      → NoneHolds (partTable (feedAfter before bytes) (length (before .state .ram)) (length (x .bytes)) (length (x .buffer))))
       → Takes (feedAfter before bytes) (before .state .ram) x before after (bytes ++ x .bytes)
   unfolding f
   takes-if right =
       ⊎-elim
-      (λ z. let done = eqb-true (before .number) 0 z in takes-all done (rw (still-open done) at (right done)))
+      (λ z. let done = eqb-true (before .number) 0 z in takes-all done (subst Passes (still-open done) (right done)))
       (λ z. takes-nothing (eqb-false (before .number) 0 z))
       (tested (eqb (before .number) 0))
 
-  pub takes : refusesPart (given (feedAfter before bytes) (before .state .ram) x .fed .ran .number) ≡ false
+  pub takes : refusesPart (given (feedAfter before bytes) (before .state .ram) x .answer .number) ≡ false
       → Takes (feedAfter before bytes) (before .state .ram) x before after (bytes ++ x .bytes)
   unfolding f
   takes h =
       takes-if (λ done. ⊎-elim
-      (λ r. rw (still-open done) (eqb-true _ 0 r))
-      (λ r. absurd (true≢false (sym (refused-first done r) ∙ h)))
-      (tested (eqb (partVerdict (g done) (length (before .state .ram)) (length (x .bytes)) (length (x .buffer)) .number) 0)))
+      (λ first. absurd (true≢false (sym (refused-first done _ _ (first .1 .1)) ∙ h)))
+      (λ none. subst Passes (sym (still-open done)) none)
+      (first-or-none (partTable (g done) (length (before .state .ram)) (length (x .bytes)) (length (x .buffer)))))
 
 -- the feed after bytes is right, while it is open
 module _ (p : Panel) (whole : Whole p) (bytes : List ℕ) (done : traceRun p bytes .number ≡ 0) where
@@ -203,7 +202,8 @@ module _ (p : Panel) (whole : Whole p) (bytes : List ℕ) (done : traceRun p byt
   -- and nothing refuses a part that is short, has room, and is countable in all
   pub nothing-refuses : (x : Part) → length (x .bytes) ≤ 65536 → 2 * completedBy (length bytes % 4) (length (x .bytes)) ≤ length (x .buffer)
       → (length bytes + length (x .bytes)) / 4 ≤ 4294967295
-      → let r = traceRun p bytes in partVerdict (feedAfter r bytes) (length (r .state .ram)) (length (x .bytes)) (length (x .buffer)) .number ≡ 0
+      → let r = traceRun p bytes in
+      NoneHolds (partTable (feedAfter r bytes) (length (r .state .ram)) (length (x .bytes)) (length (x .buffer)))
   nothing-refuses x short room countable =
       let r = traceRun p bytes in
       let all = run-ends panelTurn (front []) (wholeRecords bytes) p .done done in

@@ -6,10 +6,11 @@ use mathlib.Core.List.{List, [], _∷_, _++_, flatMap, append-nil, append-assoc}
 use lib.ListN.{length, length-append}
 use Rattle.basics.specs.Lists.{pieces}
 use Rattle.basics.specs.Run.{runOf}
-use Rattle.sed1520.specs.Laws.{Whole}
-use Rattle.sed1520.specs.Panel.{Panel}
-use Rattle.trace.specs.Replay.{comparedIn, differingIn, repliesBytes, traceRun}
-use Rattle.trace.specs.Feed.{begun, feedOf, openOf, PartOutcome, partOutcome}
+use Rattle.panel.specs.Panel.{Whole}
+use Rattle.panel.specs.Panel.{Panel}
+use Rattle.panel.specs.Trace.{traceRun}
+use Rattle.trace.specs.Replay.{comparedIn, differingIn, repliesBytes}
+use Rattle.trace.specs.Feed.{begun, feedOf, openOf, PartOutcome, partOutcome, fedBy}
 use Rattle.trace.specs.FeedPromises.{Part, joinedBytes, given, fedParts, Taken, fedAfter}
 use Rattle.trace.specs.FeedPromises.{FeedsRun, BuffersFit, Short, FittingTaken}
 use Rattle.trace.specs.declared.progress.Ending.the-variants.{Open}
@@ -30,9 +31,9 @@ module _ (p : Panel) where
   answersAt bytes = repliesBytes (traceRun p bytes .answers)
 
   record Reaches (bytes more : List ℕ) (end : PartOutcome) : Type 0 where
-    fed : end .fed ≡ fedAt (bytes ++ more)
-    image : end .ram ≡ imageAt (bytes ++ more)
-    answers : answersAt bytes ++ end .answers ≡ answersAt (bytes ++ more)
+    fed : fedBy end ≡ fedAt (bytes ++ more)
+    image : end .lent .ram ≡ imageAt (bytes ++ more)
+    answers : answersAt bytes ++ end .lent .answers ≡ answersAt (bytes ++ more)
 
   feeds-from : (xs : List Part) (bytes : List ℕ) → Taken (fedAt bytes .feed) (imageAt bytes) xs
       → Reaches bytes (joinedBytes xs) (fedParts (fedAt bytes) (imageAt bytes) xs)
@@ -42,13 +43,13 @@ module _ (p : Panel) where
       record { fed = ap fedAt same; image = ap imageAt same; answers = append-nil (answersAt bytes) ∙ ap answersAt same }
   feeds-from (x ∷ xs) bytes h =
       let here = takes p bytes x (h .0) in
-      let rest = feeds-from xs (bytes ++ x .bytes) (rw (here .fed, here .image) at (h .1)) in
+      let rest = feeds-from xs (bytes ++ x .bytes) (rw (here .feed, here .image) at (h .1)) in
       let all = append-assoc bytes (x .bytes) (joinedBytes xs) in
       record {
-        fed = rw (here .fed, here .image, ← all) (rest .fed);
-        image = rw (here .fed, here .image, ← all) (rest .image);
+        fed = rw (here .ran, here .feed, here .image, ← all) (rest .fed);
+        image = rw (here .ran, here .feed, here .image, ← all) (rest .image);
         answers =
-            rw (← all, ← rest .answers, ← here .answers, here .fed, here .image) (sym (append-assoc (answersAt bytes) _ _));
+            rw (← all, ← rest .answers, ← here .answers, here .ran, here .feed, here .image) (sym (append-assoc (answersAt bytes) _ _));
       }
 
   -- parts that are short, have room and are countable are taken
@@ -62,7 +63,7 @@ module _ (p : Panel) where
       let here = takes-if p bytes x (λ done. nothing-refuses p whole bytes done x (short .0) (room .0) (omega (arith, joined))) in
       let left : (length bytes % 4 + length (x .bytes)) % 4 ≡ length (bytes ++ x .bytes) % 4 = omega (arith, on) in
       let rest = taken-from whole xs (bytes ++ x .bytes) (short .1) (rw left at (room .1)) (omega (arith, joined, on)) in
-      rw (here .fed, here .image) (own-number (traceRun p (bytes ++ x .bytes) .number) (run-number p whole (bytes ++ x .bytes)), rest)
+      rw (here .ran, here .feed, here .image) (own-number (traceRun p (bytes ++ x .bytes) .number) (run-number p whole (bytes ++ x .bytes)), rest)
 
   -- an opened feed took no bytes yet
   opened : Whole p → openOf (p .left) (p .right) ≡ fedAt []
@@ -71,9 +72,9 @@ module _ (p : Panel) where
       let f = feedOf (p .left) (p .right) (begun Open) in
       let right : StateRight f =
       record { left = whole .left; right = whole .right; few = omega arith; compared = omega arith; differing = omega arith } in
-      sym (open-done (p .left) (p .right) _ refl (right-state f right))
+      open-done (p .left) (p .right) (right-state f right)
 
-built : (end : PartOutcome) {d : Fed} {ram answers : List ℕ} → end .fed ≡ d → end .ram ≡ ram → end .answers ≡ answers
+built : (end : PartOutcome) {d : Fed} {ram answers : List ℕ} → fedBy end ≡ d → end .lent .ram ≡ ram → end .lent .answers ≡ answers
     → end ≡ partOutcome d ram answers
 built end f i a = rw (← f, ← i, ← a)
 

@@ -1,29 +1,39 @@
--- A replay over chip records: refused before the first record, the chip records stay; else they are those of the panel's chips.
-use Prim.Native.Nat.{ℕ}
+-- A replay over chip bytes: refused before the first record, the bytes stay; else they are those of the panel's chips.
+use Prim.Native.Nat.{ℕ, _/_}
 use mathlib.Core.Path.{_≡_, refl, sym, ap, _∙_}
 use mathlib.Core.Bool.{true, false, not, _&&_, true≢false}
 use mathlib.Core.List.{List}
+use mathlib.Core.Logic.{inl, inr}
+use native.Mathlib.Omega.{arith}
 use lib.ListN.{length, take, drop}
 use borrow.Author.Tests.{eq-eqb, ne-eqb, not-false}
-use Rattle.sed1520.specs.Chip.{inRange}
-use Rattle.sed1520.specs.ChipRecord.{recordRight, chipIn, chipsBytes, chipsIn, panelIn, RecordsFit}
-use Rattle.sed1520.specs.Panel.{Panel, panelOf}
-use Rattle.sed1520.specs.declared.registers.Chip.{Chip}
-use Rattle.sed1520.specs.declared.chip_record.Chips.{Chips}
-use Rattle.sed1520.proofs.RecordsUndo.{passes, two-chips, two-length, two-there, two-back, two-pass}
+use Rattle.basics.specs.Table.{Cause, unlessRefused, verdictBy, First, NoneHolds}
+use Rattle.basics.specs.Verdict.{verdict}
+use Rattle.basics.specs.declared.verdict.Verdict.{Verdict}
+use Rattle.basics.proofs.Table.{first-refuses, none-refuses, each-line, table-as, exactly-when, refusing-line, passing-table}
 use Rattle.basics.proofs.Tests.{both, when}
+use Rattle.sed1520.specs.Chip.{inRange, outOfRange}
+use Rattle.sed1520.specs.ChipRecord.{recordRight, chipIn}
+use Rattle.sed1520.specs.declared.registers.Chip.{Chip}
+use Rattle.sed1520.proofs.RecordsUndo.{passes}
+use Rattle.panel.specs.Chips.{chipsBytes, chipsOf, chipsIn, panelIn, RecordsFit}
+use Rattle.panel.specs.Panel.{Panel, panelOf}
+use Rattle.panel.specs.declared.chips.Chips.{Chips}
+use Rattle.panel.proofs.TwoChips.{two-chips, left-passes, right-passes, two-length, two-there, two-back, two-pass}
 use Rattle.trace.specs.declared.Ran.{Ran}
-use Rattle.trace.specs.Replay.{ReplayOutcome, endedAt, refusedAt, replaySizesWrong, replayOf}
-use Rattle.trace.specs.Replay.{InPlace, inPlace, ranOf, ranNothing, rewritten, overRecords, replayInPlace}
+use Rattle.trace.specs.Refusals.{ReplayBytesNumbers, EveryRefusalBefore}
+use Rattle.trace.specs.Replay.{ReplayOutcome, panelAfter, endedAt, refusedAt, endedBytes, verdictOf, replayTable, replayOf}
+use Rattle.trace.specs.Replay.{InPlace, inPlace, ranOf, ranNothing, rewritten, overRecords, replayBytesTable, replayInPlace}
+use Rattle.trace.proofs.ReplayNumbers.{table, sizes-right}
 
--- the records of the panel that they are, are themselves
-pub kept : (chips ram : List ℕ) → length chips ≡ 24 → rewritten chips (panelIn chips ram) ≡ chips
-kept chips ram h =
+-- the bytes of the chips that they are, are themselves
+pub kept : (chips : List ℕ) → length chips ≡ 24 → rewritten chips (chipsIn chips .left) (chipsIn chips .right) ≡ chips
+kept chips h =
     when (λ (l : List ℕ). l ≡ chips) (recordRight (take 12 chips) && recordRight (drop 12 chips))
     (λ t. let right = both (recordRight (take 12 chips)) _ t in two-back chips h (right .0) (right .1))
     (λ _. refl)
 
--- records that passed before and after are those of the panel afterwards
+-- bytes that passed before and after are those of the panel afterwards
 pub over-records-at : {from ram₀ chips ram answers : List ℕ} {n compared differing at : ℕ} {whole : ReplayOutcome}
     → RecordsFit from ram₀ → RecordsFit chips ram
     → endedAt n at compared differing (panelIn chips ram) answers ≡ whole
@@ -32,23 +42,76 @@ over-records-at {chips = chips} before after e =
     rw (← e, before .left, before .right, two-back chips (after .records) (after .left) (after .right))
 
 module _ (chips ram trace answers : List ℕ) where
-  pub chips-refused : (length chips ≡ 24 → ⊥) → replayInPlace chips ram trace answers ≡ inPlace (ranNothing 1 0) chips ram answers
+  abbrev pub bytesTable : List Cause
+  bytesTable = replayBytesTable chips (length trace) (length ram) (length answers)
+
+  pub bytes-refused : (n at : ℕ) → First bytesTable n at → replayInPlace chips ram trace answers ≡ inPlace (ranNothing n at) chips ram answers
   unfolding replayInPlace
-  chips-refused h = rw (ne-eqb (length chips) 24 h)
+  bytes-refused = first-refuses (λ n at. inPlace (ranNothing n at) chips ram answers) _ bytesTable
 
-  module _ (records : length chips ≡ 24) where
+  pub chips-refused : (length chips ≡ 24 → ⊥) → replayInPlace chips ram trace answers ≡ inPlace (ranNothing 1 0) chips ram answers
+  chips-refused h = bytes-refused 1 0 (inl (ap not (ne-eqb (length chips) 24 h), (refl, refl)))
+
+  pub bytes-passed : NoneHolds bytesTable
+      → replayInPlace chips ram trace answers ≡ overRecords chips (endedBytes (panelIn chips ram) trace answers)
+  unfolding replayInPlace
+  bytes-passed = none-refuses (λ n at. inPlace (ranNothing n at) chips ram answers) _ bytesTable
+
+  -- its lines but the first
+  abbrev pub lines : List Cause
+  lines = replayTable (not (recordRight (take 12 chips))) (not (recordRight (drop 12 chips))) (length trace) (length ram) (length answers)
+
+  -- on 24 bytes it is the replay on the panel that is read from them, written back
+  module _ (h : length chips ≡ 24) where
+    pub same-lines : lines ≡ table (panelIn chips ram) trace answers
+    same-lines = rw (left-passes chips h _ refl, right-passes chips h _ refl)
+
     on-panel : replayInPlace chips ram trace answers ≡ overRecords chips (replayOf (panelIn chips ram) trace answers)
-    unfolding replayInPlace
-    on-panel = rw (eq-eqb (length chips) 24 records)
+    unfolding replayInPlace replayOf
+    on-panel =
+        let refuse : ℕ → ℕ → InPlace Ran = λ n at. inPlace (ranNothing n at) chips ram answers in
+        let done = overRecords chips (endedBytes (panelIn chips ram) trace answers) in
+        let past : replayInPlace chips ram trace answers ≡ unlessRefused lines refuse done = rw (eq-eqb (length chips) 24 h) in
+        past
+        ∙ ap (λ (t : List Cause). unlessRefused t refuse done) same-lines
+        ∙ sym (table-as (overRecords chips) (table (panelIn chips ram) trace answers) {refuse = λ n at. refusedAt n at (panelIn chips ram) answers} {refused = refuse} (λ n at. rw (kept chips h)) refl)
 
-    pub as-panel : (o : ReplayOutcome) → replayOf (panelIn chips ram) trace answers ≡ o → replayInPlace chips ram trace answers ≡ overRecords chips o
-    as-panel o e = on-panel ∙ ap (overRecords chips) e
+  -- code that computes the verdict of these lines first
+  module _ (v : Verdict) (h : length chips ≡ 24) (e : v ≡ verdictBy (table (panelIn chips ram) trace answers) (verdict 0 0)) where
+    by-lines : v ≡ verdictBy lines (verdict 0 0)
+    by-lines = e ∙ ap (λ (t : List Cause). verdictBy t (verdict 0 0)) (sym (same-lines h))
 
-    pub refused-before : (n at : ℕ) → replayOf (panelIn chips ram) trace answers ≡ refusedAt n at (panelIn chips ram) answers
-        → replayInPlace chips ram trace answers ≡ inPlace (ranNothing n at) chips ram answers
-    refused-before n at e = as-panel (refusedAt n at (panelIn chips ram) answers) e ∙ rw (kept chips ram records)
+    pub verdict-refused : (v .number ≡ 0 → ⊥) → replayInPlace chips ram trace answers ≡ inPlace (ranNothing (v .number) (v .place)) chips ram answers
+    verdict-refused nonzero = bytes-refused (v .number) (v .place) (inr (ap not (eq-eqb (length chips) 24 h), refusing-line lines v 0 by-lines nonzero))
 
--- records whose chips are in range, over the whole image
+    pub verdict-passed : v .number ≡ 0 → NoneHolds lines
+    verdict-passed = passing-table lines v 0 by-lines (λ z. omega arith, (λ z. omega arith, (λ z. omega arith, (λ z. omega arith, tt))))
+
+  -- bytes that no line refuses
+  pub lines-fit : length chips ≡ 24 → NoneHolds lines → RecordsFit chips ram
+  lines-fit h none =
+      record {
+        records = h;
+        left = not-false (recordRight (take 12 chips)) (none .1 .0);
+        right = not-false (recordRight (drop 12 chips)) (none .1 .1 .0);
+        image = sizes-right (length trace) (length trace / 4) (length ram) (length answers) (none .0) .image;
+      }
+
+  pub lines-passed : length chips ≡ 24 → NoneHolds lines
+      → replayInPlace chips ram trace answers ≡ overRecords chips (endedBytes (panelIn chips ram) trace answers)
+  lines-passed h none = bytes-passed (ap not (eq-eqb (length chips) 24 h), none)
+
+pub replay-bytes-numbers : ReplayBytesNumbers
+unfolding replayInPlace
+replay-bytes-numbers chips ram trace answers =
+    let sizes = bytesTable chips ram trace answers in
+    let run = endedBytes (panelIn chips ram) trace answers in
+    rw (table-as (λ (i : InPlace Ran). verdictOf (i .answer)) sizes (λ n at. refl) refl) (exactly-when sizes (verdictOf (run .answer)))
+
+pub every-refusal-before : EveryRefusalBefore
+every-refusal-before = bytes-refused
+
+-- bytes whose chips are in range, over the whole image
 pub records-fit : (chips ram : List ℕ) → length chips ≡ 24 → inRange (chipsIn chips .left) ≡ true → inRange (chipsIn chips .right) ≡ true
     → length ram ≡ 640 → RecordsFit chips ram
 records-fit chips ram h left right image =
@@ -57,25 +120,23 @@ records-fit chips ram h left right image =
     record { records = h; left = sym (passes (take 12 chips)) ∙ l; right = sym (passes (drop 12 chips)) ∙ r; image = image }
 
 -- a chip out of range: the panel stays
-abbrev Stays : Panel → ReplayOutcome → Type 0
-Stays p o = o .panel ≡ p
-
-out-of-range : (p : Panel) (trace answers : List ℕ) → (inRange (p .left) && inRange (p .right)) ≡ false
-    → Stays p (replayOf p trace answers)
+out-of-range : (p : Panel) (trace answers : List ℕ) → (inRange (p .left) && inRange (p .right)) ≡ false → panelAfter (replayOf p trace answers) ≡ p
 unfolding replayOf
 out-of-range p trace answers out =
-    when (Stays p) (replaySizesWrong (length trace) (length (p .ram)) (length answers)) (λ _. refl)
-    (λ _. when (Stays p) (not (inRange (p .left))) (λ _. refl)
-    (λ l. when (Stays p) (not (inRange (p .right))) (λ _. refl)
-    (λ r. absurd (true≢false (rw (not-false (inRange (p .left)) l, not-false (inRange (p .right)) r) at out)))))
+    each-line (λ n at. refusedAt n at p answers) (endedBytes p trace answers) (λ (o : ReplayOutcome). panelAfter o ≡ p) (table p trace answers)
+    (λ n at _. refl)
+    (λ none.
+    let left = not-false (inRange (p .left)) (none .1 .0) in
+    let right = not-false (inRange (p .right)) (none .1 .1 .0) in
+    absurd (true≢false (rw (left, right) at out)))
 
--- the panel of two chips, read from their records
+-- the panel of two chips, read from their bytes
 pub panel-there : (left right : Chip) (ram : List ℕ) → panelIn (chipsBytes left right) ram ≡ panelOf left right ram
 panel-there left right ram = ap (λ (c : Chips). panelOf (c .left) (c .right) ram) (two-there left right)
 
--- a panel read back from the records of two chips, where it is theirs if one of them is out of range
+-- a panel read back from the bytes of two chips, where it is theirs if one of them is out of range
 pub panel-back : (left right : Chip) (ram : List ℕ) (p : Panel) → ((inRange left && inRange right) ≡ false → p ≡ panelOf left right ram)
-    → panelIn (rewritten (chipsBytes left right) p) (p .ram) ≡ p
+    → panelIn (rewritten (chipsBytes left right) (p .left) (p .right)) (p .ram) ≡ p
 panel-back left right ram p stays =
     rw (two-pass left right)
     (when (λ (l : List ℕ). panelIn l (p .ram) ≡ p) (inRange left && inRange right)
@@ -83,10 +144,11 @@ panel-back left right ram p stays =
     (λ f. let same = stays f in
     panel-there left right (p .ram) ∙ ap (λ (q : Panel). panelOf left right (q .ram)) same ∙ sym same))
 
--- what stands after a replay over records, with the chips read back
+-- what stands after a replay over bytes, with the chips read back
 abbrev asOutcome : InPlace Ran → ReplayOutcome
 asOutcome i =
-    endedAt (i .answer .number) (i .answer .place) (i .answer .compared) (i .answer .differing) (panelIn (i .chips) (i .ram)) (i .answers)
+    let a = i .answer in
+    endedAt (a .number) (a .place) (a .compared) (a .differing) (panelIn (i .lent .state) (i .lent .ram)) (i .lent .answers)
 
 pub by-value : (left right : Chip) (chips ram trace answers : List ℕ) (i : InPlace Ran) → chips ≡ chipsBytes left right
     → i ≡ replayInPlace chips ram trace answers → asOutcome i ≡ replayOf (panelOf left right ram) trace answers
@@ -94,5 +156,7 @@ by-value left right chips ram trace answers i theirs e =
     let whole = replayOf (panelOf left right ram) trace answers in
     let on-records = on-panel (chipsBytes left right) ram trace answers (two-length left right) in
     let same = (rw theirs at e) ∙ (rw (two-there left right) at on-records) in
+    let back = panel-back left right ram (panelAfter whole) (out-of-range (panelOf left right ram) trace answers) in
+    let a = whole .answer in
     ap asOutcome same
-    ∙ rw (panel-back left right ram (whole .panel) (out-of-range (panelOf left right ram) trace answers))
+    ∙ ap (λ (q : Panel). endedAt (a .number) (a .place) (a .compared) (a .differing) q (whole .lent .answers)) back

@@ -9,10 +9,10 @@ use lib.Seq.{take-at, drop-at, drop-drop}
 use Rattle.basics.proofs.Lists.{flat-append, flat-length}
 use Rattle.basics.proofs.Run.{run-ends, run-join, run-cut, answers-bound}
 use Rattle.sed1520.specs.Cycle.{Reply}
-use Rattle.sed1520.specs.Panel.{Panel, panelTurn, panelRun}
+use Rattle.panel.specs.Panel.{Panel, panelTurn, panelRun}
 use Rattle.sed1520.specs.Records.{front}
 use Rattle.sed1520.specs.declared.bus.Record.{Record}
-use Rattle.trace.specs.Replay.{ReplayOutcome, replyBytes, repliesBytes, endedAt, ended}
+use Rattle.trace.specs.Replay.{ReplayOutcome, replyBytes, repliesBytes, endedAt, panelAfter, ended}
 use Rattle.trace.proofs.Counts.{compared-join, differing-join, differing-front}
 
 -- the bytes of replies
@@ -37,15 +37,15 @@ module _ (p : Panel) (rs : List Record) (buffer : List ℕ) where
   first = ended (panelRun p rs) rs buffer
 
   -- done, all of them are answered
-  pub ended-all : first .number ≡ 0 → first .place ≡ length rs
+  pub ended-all : first .answer .number ≡ 0 → first .answer .place ≡ length rs
   unfolding ended
   ended-all done = run-ends panelTurn (front []) rs p .done done
 
   module _ (qs : List Record) where
-    pub ended-join : first .number ≡ 0 → let n = 2 * first .place in let second = ended (panelRun (first .panel) qs) qs (drop n (first .answers)) in
+    pub ended-join : first .answer .number ≡ 0 → let n = 2 * first .answer .place in let second = ended (panelRun (panelAfter first) qs) qs (drop n (first .lent .answers)) in
         ended (panelRun p (rs ++ qs)) (rs ++ qs) buffer
-        ≡ endedAt (second .number) (first .place + second .place) (first .compared + second .compared) (first .differing + second .differing)
-        (second .panel) (take n (first .answers) ++ second .answers)
+        ≡ endedAt (second .answer .number) (first .answer .place + second .answer .place) (first .answer .compared + second .answer .compared) (first .answer .differing + second .answer .differing)
+        (panelAfter second) (take n (first .lent .answers) ++ second .lent .answers)
     unfolding ended
     ended-join done =
         let given = panelRun p rs .answers in
@@ -54,7 +54,7 @@ module _ (p : Panel) (rs : List Record) (buffer : List ℕ) where
         (rw (compared-join given more, differing-join given more rs qs (ended-all done), answers-join given more buffer)
         (rw length-append))
 
-    pub ended-cut : (first .number ≡ 0 → ⊥) → ended (panelRun p (rs ++ qs)) (rs ++ qs) buffer ≡ first
+    pub ended-cut : (first .answer .number ≡ 0 → ⊥) → ended (panelRun p (rs ++ qs)) (rs ++ qs) buffer ≡ first
     unfolding ended
     ended-cut h =
         rw (run-cut panelTurn p rs qs h) (rw (differing-front (panelRun p rs .answers) rs qs (answers-bound panelTurn rs p)))

@@ -7,7 +7,7 @@ use lib.ListN.{length, getD, take, drop, take-append-drop, length-append, length
 use lib.Seq.{length-take-le, getD-take, getD-drop, getD-append-add, drop-append-add}
 use Rattle.basics.specs.Lists.{pieces}
 use Rattle.basics.specs.Run.{runOf}
-use Rattle.sed1520.specs.Panel.{Panel}
+use Rattle.panel.specs.Panel.{Panel}
 use Rattle.sed1520.specs.Records.{wholeRecords}
 use Rattle.sed1520.proofs.Records.{front-there, whole-records-join}
 use Rattle.trace.specs.Replay.{comparedIn, differingIn, endedAt, ended, endedBytes}

@@ -1,14 +1,14 @@
 pub mod AfterEach
 pub mod Bounds
 pub mod InPlace
-pub mod RefusedBefore
-pub mod ReplayCases
+pub mod ReplayNumbers
 pub mod Counts
 pub mod Upto
 pub mod Ends
 pub mod Joined
 pub mod KeptOver
 pub mod FeedCases
+pub mod FeedNumbers
 pub mod OverRecords
 pub mod PartCases
 pub mod HeldFeed

@@ -5,23 +5,24 @@ use mathlib.Core.Path.{_≡_, sym, ap, _∙_}
 use mathlib.Core.Bool.{true}
 use mathlib.Core.List.{List, [], _++_, append-nil}
 use lib.ListN.{length, take, drop, length-drop, drop-of-length-le}
-use Rattle.sed1520.specs.ChipRecord.{chipsBytes, panelIn, RecordsFit}
-use Rattle.sed1520.specs.Laws.{Whole}
-use Rattle.sed1520.specs.Panel.{Panel, panelRun}
+use Rattle.panel.specs.Chips.{chipsBytes, panelIn, RecordsFit}
+use Rattle.panel.specs.Panel.{Whole}
+use Rattle.panel.specs.Panel.{Panel, panelRun}
 use Rattle.sed1520.specs.Records.{wholeRecords}
 use Rattle.sed1520.specs.declared.bus.Record.{Record}
+use Rattle.sed1520.specs.declared.registers.Chip.{Chip}
 use Rattle.basics.proofs.Parts.{rest}
-use Rattle.sed1520.proofs.PanelLaws.{after-whole}
+use Rattle.panel.proofs.PanelLaws.{after-whole}
 use Rattle.sed1520.proofs.Records.{records-length, whole-records-join}
-use Rattle.sed1520.proofs.RecordsUndo.{left-passes, right-passes, two-fit}
+use Rattle.panel.proofs.TwoChips.{left-passes, right-passes, two-fit}
 use Rattle.trace.specs.declared.Ran.{Ran}
-use Rattle.trace.specs.Replay.{ReplayOutcome, ended, endedBytes, InPlace, inPlace, ranOf, rewritten, overRecords}
+use Rattle.trace.specs.Replay.{ReplayOutcome, panelAfter, ended, endedBytes, InPlace, inPlace, ranOf, rewritten, overRecords}
 use Rattle.trace.proofs.InPlace.{panel-there}
 use Rattle.trace.proofs.Joined.{ended-all, ended-join, ended-cut}
 
 -- records that pass are rewritten to those of the panel
-rewritten-to : {chips ram : List ℕ} → RecordsFit chips ram → (p : Panel) → rewritten chips p ≡ chipsBytes (p .left) (p .right)
-rewritten-to fit p = rw (fit .left, fit .right)
+rewritten-to : {chips ram : List ℕ} → RecordsFit chips ram → (left right : Chip) → rewritten chips left right ≡ chipsBytes left right
+rewritten-to fit left right = rw (fit .left, fit .right)
 
 module _ {chips ram : List ℕ} (fit : RecordsFit chips ram) where
   -- their panel is in range over the whole image
@@ -35,24 +36,26 @@ module _ {chips ram : List ℕ} (fit : RecordsFit chips ram) where
 
   -- what a run over them leaves is its panel, and fits again where that is whole
   module _ {i : InPlace Ran} (o : ReplayOutcome) (e : i ≡ overRecords chips o) where
-    pub over-panel : panelIn (i .chips) (i .ram) ≡ o .panel
-    over-panel = rw e (rw (rewritten-to fit (o .panel)) (panel-there (o .panel .left) (o .panel .right) (o .panel .ram)))
+    pub over-panel : panelIn (i .lent .state) (i .lent .ram) ≡ panelAfter o
+    over-panel =
+        let c = o .lent .state in
+        rw e (rw (rewritten-to fit (c .left) (c .right)) (panel-there (c .left) (c .right) (o .lent .ram)))
 
-    pub over-fit : Whole (o .panel) → RecordsFit (i .chips) (i .ram)
+    pub over-fit : Whole (panelAfter o) → RecordsFit (i .lent .state) (i .lent .ram)
     over-fit whole =
-        let p = o .panel in
-        rw e (rw (rewritten-to fit p) (two-fit (p .left) (p .right) (p .ram) (whole .left) (whole .right) (whole .image)))
+        let c = o .lent .state in
+        rw e (rw (rewritten-to fit (c .left) (c .right)) (two-fit (c .left) (c .right) (o .lent .ram) (whole .left) (whole .right) (whole .image)))
 
   module _ (rs qs : List Record) (buffer : List ℕ) where
     abbrev first : ReplayOutcome
     first = ended (panelRun (panelIn chips ram) rs) rs buffer
 
-    first-whole : Whole (first .panel)
+    first-whole : Whole (panelAfter first)
     unfolding ended
     first-whole = after-whole rs (panelIn chips ram) whole-panel
 
     module _ (i : InPlace Ran) (e : i ≡ overRecords chips first) where
-      pub fits-after : RecordsFit (i .chips) (i .ram)
+      pub fits-after : RecordsFit (i .lent .state) (i .lent .ram)
       fits-after = over-fit first e first-whole
 
       pub first-cut : (i .answer .number ≡ 0 → ⊥) → i ≡ overRecords chips (ended (panelRun (panelIn chips ram) (rs ++ qs)) (rs ++ qs) buffer)
@@ -60,19 +63,19 @@ module _ {chips ram : List ℕ} (fit : RecordsFit chips ram) where
 
       -- the second run, on what the first left and the answers behind its own
       pub both-run : (n : ℕ) → length rs ≡ n → i .answer .number ≡ 0 → (k : InPlace Ran)
-          → k ≡ overRecords (i .chips) (ended (panelRun (panelIn (i .chips) (i .ram)) qs) qs (drop (2 * n) (i .answers)))
+          → k ≡ overRecords (i .lent .state) (ended (panelRun (panelIn (i .lent .state) (i .lent .ram)) qs) qs (drop (2 * n) (i .lent .answers)))
           → let a = i .answer in let b = k .answer in
-          inPlace (ranOf (b .number) (a .place + b .place) (a .compared + b .compared) (a .differing + b .differing)) (k .chips) (k .ram)
-          (take (2 * n) (i .answers) ++ k .answers)
+          inPlace (ranOf (b .number) (a .place + b .place) (a .compared + b .compared) (a .differing + b .differing)) (k .lent .state) (k .lent .ram)
+          (take (2 * n) (i .lent .answers) ++ k .lent .answers)
           ≡ overRecords chips (ended (panelRun (panelIn chips ram) (rs ++ qs)) (rs ++ qs) buffer)
       both-run n all done k then =
           let p = panelIn chips ram in
-          let at-zero : first .number ≡ 0 = rw e at done in
-          let many : first .place ≡ n = ended-all p rs buffer at-zero ∙ all in
+          let at-zero : first .answer .number ≡ 0 = rw e at done in
+          let many : first .answer .place ≡ n = ended-all p rs buffer at-zero ∙ all in
           let joined = ended-join p rs buffer qs at-zero in
-          let second = rw (over-panel first e, ap (λ (j : InPlace Ran). j .answers) e, ← many) at then in
-          let last = ended (panelRun (first .panel) qs) qs (drop (2 * first .place) (first .answers)) .panel in
-          rw joined (rw (second, rewritten-to fits-after last, rewritten-to fit last) (rw (← many) (rw e)))
+          let second = rw (over-panel first e, ap (λ (j : InPlace Ran). j .lent .answers) e, ← many) at then in
+          let last = ended (panelRun (panelAfter first) qs) qs (drop (2 * first .answer .place) (first .lent .answers)) .lent .state in
+          rw joined (rw (second, rewritten-to fits-after (last .left) (last .right), rewritten-to fit (last .left) (last .right)) (rw (← many) (rw e)))
 
 -- bytes in whole records and more behind them
 module _ {chips ram : List ℕ} (fit : RecordsFit chips ram) (bytes more buffer : List ℕ) (n : ℕ) (size : length bytes ≡ 4 * n)

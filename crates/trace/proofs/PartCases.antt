@@ -1,82 +1,98 @@
--- A part given over chip records, past each test; and by value, the chips read back.
+-- A part given over chip bytes, past each test; and by value, the chips read back.
 use Prim.Native.Nat.{ℕ}
-use mathlib.Core.Path.{_≡_, refl, ap, _∙_}
+use mathlib.Core.Path.{_≡_, refl, sym, ap, _∙_}
 use mathlib.Core.Bool.{false, _&&_, true≢false}
 use mathlib.Core.List.{List}
-use lib.Dec.{eqb}
-use lib.ListN.{length}
-use borrow.Author.Tests.{eqb-true, eq-eqb, ne-eqb}
+use lib.ListN.{length, take, drop}
+use borrow.Author.Tests.{eq-eqb, ne-eqb}
+use Rattle.basics.specs.Table.{First, NoneHolds}
+use Rattle.basics.proofs.Table.{each-line}
 use Rattle.basics.proofs.Tests.{when}
 use Rattle.sed1520.specs.Chip.{inRange}
-use Rattle.sed1520.specs.ChipRecord.{chipsBytes, panelIn}
-use Rattle.sed1520.specs.Panel.{Panel, panelOf}
+use Rattle.sed1520.specs.ChipRecord.{recordRight}
 use Rattle.sed1520.specs.declared.registers.Chip.{Chip}
-use Rattle.sed1520.specs.declared.verdict.Verdict.{Verdict}
-use Rattle.sed1520.proofs.RecordsUndo.{two-length, two-there}
-use Rattle.trace.specs.Replay.{InPlace, inPlace, endedBytes, overRecords}
-use Rattle.trace.specs.Feed.{joinedTo, feedOf, partVerdict, fedOf, PartOutcome, partOutcome, movedOn, openPart, partOf}
+use Rattle.panel.specs.Chips.{chipsBytes, panelIn}
+use Rattle.panel.specs.Panel.{Panel, panelOf}
+use Rattle.panel.proofs.TwoChips.{two-length, two-there}
+use Rattle.trace.specs.Replay.{InPlace, inPlace, endedBytes, rewritten, overRecords}
+use Rattle.trace.specs.Feed.{joinedTo, feedOf, partTable, fedOf, PartOutcome, partOutcome, notTaken, tookPart, movedOn, openPart, partOf}
 use Rattle.trace.specs.FeedInPlace.{feedIn, fedInPlace, asRecords, partInPlace}
 use Rattle.trace.specs.declared.Ran.{Ran}
 use Rattle.trace.specs.declared.progress.Progress.{Progress}
+use Rattle.trace.specs.declared.progress.Ending.{Ending}
 use Rattle.trace.specs.declared.progress.Ending.the-variants.{Open, Stopped}
 use Rattle.trace.specs.declared.feed.FedInPlace.{FedInPlace}
-use Rattle.trace.proofs.FeedCases.{part-right, by-ending}
+use Rattle.trace.proofs.FeedCases.{part-right, part-refused, part-taken, by-ending, stays-stopped, goes-on}
 use Rattle.trace.proofs.InPlace.{kept, panel-back}
 
 module _ (chips ram part answers : List ℕ) (t : Progress) where
-  pub chips-wrong : (length chips ≡ 24 → ⊥) → partInPlace chips t ram part answers ≡ inPlace (fedInPlace t 1 0) chips ram answers
+  pub still-stopped : (n at : ℕ) → t .ending ≡ Stopped n at → partInPlace chips t ram part answers ≡ inPlace (fedInPlace t n at) chips ram answers
   unfolding partInPlace
-  chips-wrong h = rw (ne-eqb (length chips) 24 h)
+  still-stopped n at e = rw e
+
+  pub chips-wrong : t .ending ≡ Open → (length chips ≡ 24 → ⊥) → partInPlace chips t ram part answers ≡ inPlace (fedInPlace t 1 0) chips ram answers
+  unfolding partInPlace
+  chips-wrong e h = rw (e, ne-eqb (length chips) 24 h)
 
   module _ (records : length chips ≡ 24) where
-    pub still-stopped : (n at : ℕ) → t .ending ≡ Stopped n at → partInPlace chips t ram part answers ≡ inPlace (fedInPlace t n at) chips ram answers
-    unfolding partInPlace partOf
-    still-stopped n at e = rw (eq-eqb (length chips) 24 records, e) (rw (kept chips ram records))
-
     pub still-open : t .ending ≡ Open → partInPlace chips t ram part answers ≡ asRecords chips (openPart (feedIn chips t) ram part answers)
-    unfolding partInPlace partOf
-    still-open e = rw (eq-eqb (length chips) 24 records, e)
+    unfolding partInPlace
+    still-open e = rw (e, eq-eqb (length chips) 24 records)
 
-    module _ (v : Verdict) (e : v ≡ partVerdict (feedIn chips t) (length ram) (length part) (length answers)) where
-      pub part-refused : (v .number ≡ 0 → ⊥)
-          → inPlace (fedInPlace t (v .number) (v .place)) chips ram answers ≡ asRecords chips (openPart (feedIn chips t) ram part answers)
-      unfolding openPart
-      part-refused h = rw (← e, ne-eqb (v .number) 0 h) (rw (kept chips ram records))
+    pub not-taken : (n at : ℕ) → First (partTable (feedIn chips t) (length ram) (length part) (length answers)) n at
+        → inPlace (fedInPlace t n at) chips ram answers ≡ asRecords chips (openPart (feedIn chips t) ram part answers)
+    not-taken n at first = rw (part-refused (feedIn chips t) ram part answers n at first) (rw (kept chips records))
 
-      pub part-ran : v .number ≡ 0 → (i : InPlace Ran) → i ≡ overRecords chips (endedBytes (panelIn chips ram) (joinedTo t part) answers)
-          → (next : Progress) → next ≡ movedOn t (joinedTo t part) (i .answer)
-          → inPlace (fedInPlace next (i .answer .number) (next .records)) (i .chips) (i .ram) (i .answers)
-          ≡ asRecords chips (openPart (feedIn chips t) ram part answers)
-      unfolding openPart
-      part-ran h i ran next moved = rw (← e, eq-eqb (v .number) 0 h) (rw moved (rw ran))
+    pub part-ran : NoneHolds (partTable (feedIn chips t) (length ram) (length part) (length answers))
+        → (i : InPlace Ran) → i ≡ overRecords chips (endedBytes (panelIn chips ram) (joinedTo t part) answers)
+        → (next : Progress) → next ≡ movedOn t (joinedTo t part) (i .answer)
+        → inPlace (fedInPlace next (i .answer .number) (next .records)) (i .lent .state) (i .lent .ram) (i .lent .answers)
+        ≡ asRecords chips (openPart (feedIn chips t) ram part answers)
+    part-ran none i ran next moved = rw (part-taken (feedIn chips t) ram part answers none) (rw moved (rw ran))
 
 -- by value
 module _ (left right : Chip) (t : Progress) (ram part answers : List ℕ) where
   -- the panel after a part
-  abbrev panelAfter : PartOutcome → Panel
-  panelAfter o = panelOf (o .fed .feed .left) (o .fed .feed .right) (o .ram)
+  abbrev panelLeft : PartOutcome → Panel
+  panelLeft o = panelOf (o .lent .state .left) (o .lent .state .right) (o .lent .ram)
 
   abbrev Stays : PartOutcome → Type 0
-  Stays o = panelAfter o ≡ panelOf left right ram
+  Stays o = panelLeft o ≡ panelOf left right ram
 
   -- a chip out of range: the part is not taken
   out-of-range : (inRange left && inRange right) ≡ false → Stays (partOf (feedOf left right t) ram part answers)
   unfolding partOf openPart
   out-of-range out =
+      let f = feedOf left right t in
       by-ending Stays (t .ending) (λ n at e. refl)
-      (λ _. when Stays (eqb (partVerdict (feedOf left right t) (length ram) (length part) (length answers) .number) 0)
-      (λ z. let state = part-right (feedOf left right t) _ _ _ (eqb-true _ 0 z) .state in
-      absurd (true≢false (rw (state .left, state .right) at out)))
-      (λ _. refl))
+      (λ _. each-line (notTaken f ram answers) (tookPart f (joinedTo t part) (endedBytes (panelOf left right ram) (joinedTo t part) answers)) Stays
+      (partTable f (length ram) (length part) (length answers)) (λ n at _. refl)
+      (λ none. let state = part-right f _ _ _ none .state in
+      absurd (true≢false (rw (state .left, state .right) at out))))
 
-  pub by-value : (chips : List ℕ) → chips ≡ chipsBytes left right → (i : InPlace FedInPlace) → i ≡ partInPlace chips t ram part answers
-      → partOutcome (fedOf (i .answer .ran) (feedIn (i .chips) (i .answer .progress))) (i .ram) (i .answers)
+  abbrev theirs : List ℕ
+  theirs = chipsBytes left right
+
+  same-bytes : rewritten theirs left right ≡ theirs
+  same-bytes = when (λ (l : List ℕ). l ≡ theirs) (recordRight (take 12 theirs) && recordRight (drop 12 theirs)) (λ _. refl) (λ _. refl)
+
+  -- over the bytes of both chips it is the part by value, written back
+  pub on-bytes : partInPlace theirs t ram part answers ≡ asRecords theirs (partOf (feedOf left right t) ram part answers)
+  on-bytes = either (t .ending) refl
+    where
+      either : (e : Ending) → t .ending ≡ e → partInPlace theirs t ram part answers ≡ asRecords theirs (partOf (feedOf left right t) ram part answers)
+      either (Stopped n at) e =
+          still-stopped theirs ram part answers t n at e ∙ rw (stays-stopped (feedOf left right t) ram part answers n at e) (rw same-bytes)
+      either Open e =
+          still-open theirs ram part answers t (two-length left right) e
+          ∙ rw (goes-on (feedOf left right t) ram part answers e, two-there left right)
+
+  pub by-value : (chips : List ℕ) → chips ≡ theirs → (i : InPlace FedInPlace) → i ≡ partInPlace chips t ram part answers
+      → partOutcome (fedOf (i .answer .ran) (feedIn (i .lent .state) (i .answer .progress))) (i .lent .ram) (i .lent .answers)
       ≡ partOf (feedOf left right t) ram part answers
-  unfolding partInPlace
-  by-value chips theirs i e =
+  by-value chips same i e =
       let o = partOf (feedOf left right t) ram part answers in
-      let back = panel-back left right ram (panelAfter o) out-of-range in
-      let there : i ≡ asRecords (chipsBytes left right) o =
-      e ∙ rw theirs (rw (eq-eqb (length (chipsBytes left right)) 24 (two-length left right)) (rw (two-there left right))) in
-      let next = o .fed .feed .progress in
-      rw there (ap (λ (p : Panel). partOutcome (fedOf (o .fed .ran) (feedOf (p .left) (p .right) next)) (o .ram) (o .answers)) back)
+      let back = panel-back left right ram (panelLeft o) out-of-range in
+      let there : i ≡ asRecords theirs o = (rw same at e) ∙ on-bytes in
+      let next = o .lent .state .progress in
+      rw there (ap (λ (p : Panel). partOutcome (fedOf (o .answer) (feedOf (p .left) (p .right) next)) (o .lent .ram) (o .lent .answers)) back)

@@ -10,14 +10,14 @@ use lib.ListN.{length, getD}
 use borrow.Author.Tests.{eqb-true, eqb-false, ne-eqb, leb-true}
 use Rattle.basics.proofs.Run.{run-ends}
 use Rattle.basics.proofs.Tests.{tested, either, both}
-use Rattle.sed1520.specs.Laws.{Whole}
-use Rattle.sed1520.specs.Panel.{Panel, panelTurn}
-use Rattle.sed1520.specs.Promises.{isRecordNumber}
+use Rattle.panel.specs.Panel.{Whole}
+use Rattle.panel.specs.Panel.{Panel, panelTurn}
+use Rattle.panel.specs.Promises.{isRecordNumber}
 use Rattle.sed1520.specs.Records.{front, wholeRecords}
-use Rattle.sed1520.proofs.PanelLaws.{after-whole}
-use Rattle.sed1520.proofs.RecordNumbers.{every-record-number}
+use Rattle.panel.proofs.PanelLaws.{after-whole}
+use Rattle.panel.proofs.RecordNumbers.{every-record-number}
 use Rattle.trace.specs.FeedPromises.{refusesPart}
-use Rattle.trace.specs.Replay.{traceRun}
+use Rattle.panel.specs.Trace.{traceRun}
 
 module _ (n : ℕ) (own : isRecordNumber n ≡ true) where
   -- done, 4 to 8, or 14

@@ -3,7 +3,7 @@
 use Prim.Native.Nat.{ℕ, suc, _+_, _-_, _*_, _/_, _<_, _≤_}
 use native.Mathlib.Omega.{arith}
 use native.Mathlib.Numerals.{add-one}
-use mathlib.Core.Path.{_≡_, refl, sym, _∙_}
+use mathlib.Core.Path.{_≡_, refl, sym, ap, _∙_}
 use mathlib.Core.Bool.{not, _&&_}
 use mathlib.Core.List.{List, [], _∷_, _++_, flatMap, append-assoc}
 use lib.Dec.{eqb}
@@ -14,18 +14,20 @@ use Rattle.basics.specs.Run.{ranTo, runOf}
 use Rattle.basics.proofs.Filling.{Begun, begun-none, begun-byte}
 use Rattle.basics.proofs.Lists.{flat-append}
 use Rattle.basics.proofs.Run.{one-more, refused-next}
-use Rattle.sed1520.specs.ChipRecord.{panelIn, RecordsFit}
+use Rattle.panel.specs.Chips.{panelIn, RecordsFit}
 use Rattle.sed1520.specs.Cycle.{Reply}
-use Rattle.sed1520.specs.Panel.{Panel, outcomeOf, panelTurn, panelRun}
-use Rattle.sed1520.specs.Promises.{StepsPanel}
-use Rattle.sed1520.specs.RecordStep.{acted, stepRecords}
+use Rattle.panel.specs.Panel.{Panel, outcomeOf, panelTurn, panelRun}
+use Rattle.panel.specs.Promises.{StepsPanel}
+use Rattle.sed1520.specs.RecordStep.{acted}
+use Rattle.panel.specs.Step.{stepRecords}
 use Rattle.sed1520.specs.Records.{wholeRecords}
 use Rattle.sed1520.specs.declared.bus.Record.{Record}
 use Rattle.sed1520.specs.declared.record_step.BareAnswer.{BareAnswer}
-use Rattle.sed1520.proofs.PanelLaws.{refused-record}
+use Rattle.panel.proofs.PanelLaws.{refused-record}
 use Rattle.sed1520.proofs.Records.{recordFrom, front-at, records-length, record-at}
-use Rattle.sed1520.proofs.RecordSteps.{every-record-step}
-use Rattle.trace.specs.Replay.{isCompared, comparedIn, differingIn, replyBytes, repliesBytes, endedAt, ended, endedBytes, traceRun}
+use Rattle.panel.proofs.RecordSteps.{every-record-step}
+use Rattle.panel.specs.Trace.{traceRun}
+use Rattle.trace.specs.Replay.{isCompared, comparedIn, differingIn, replyBytes, repliesBytes, endedAt, ended, endedBytes}
 use Rattle.trace.proofs.Counts.{at-most-one, compared-more, differing-more}
 
 pub record Upto (p : Panel) (trace buffer chips ram answers : List ℕ) (compared differing at : ℕ) : Type 0 where
@@ -105,8 +107,9 @@ module _ {p : Panel} {trace buffer chips ram answers : List ℕ} {compared diffe
     refused-here h =
         let next = refused-next panelTurn p (take at records) (upto .run) bus (drop (suc at) records) (nonzero h) in
         let cut = rw here at (split-at records at bus (omega (arith, all))) in
-        rw (on-panel .panel, refused-record (panelIn chips ram) bus (nonzero h))
-        (ends (a .number) (rw (← cut, ← on-panel .number) at next))
+        let same = on-panel .panel ∙ refused-record (panelIn chips ram) bus (nonzero h) in
+        ap (λ (q : Panel). endedAt (a .number) at compared differing q answers) same
+        ∙ ends (a .number) (rw (← cut, ← on-panel .number) at next)
 
     -- the answer of an accepted record
     abbrev reply : Reply

@@ -1,17 +1,18 @@
 -- The feed of request C-11: a trace taken in parts. The bytes kept over and a part behind them are run as a replay runs a trace; what is left past
 -- their last whole record is kept over for the next part.
 use Prim.Native.Nat.{ℕ, _+_, _*_, _/_}
-use mathlib.Core.Bool.{Bool, not, _||_}
+use mathlib.Core.Bool.{Bool, _||_}
 use mathlib.Core.List.{List, [], _∷_, _++_}
 use lib.Dec.{ltb, eqb}
 use lib.ListN.{length, getD, take, drop}
 use Rattle.basics.specs.Choice.{if}
-use Rattle.sed1520.specs.Chip.{inRange}
-use Rattle.sed1520.specs.Panel.{panelOf}
-use Rattle.sed1520.specs.Verdict.{verdict, unless}
+use Rattle.basics.specs.Table.{Cause, cause, leftThenRight, unlessRefused, verdictBy}
+use Rattle.basics.specs.Verdict.{verdict, Result, result}
+use Rattle.basics.specs.declared.verdict.Verdict.{Verdict}
 use Rattle.sed1520.specs.declared.registers.Chip.{Chip}
-use Rattle.sed1520.specs.declared.verdict.Verdict.{Verdict}
-use Rattle.trace.specs.Replay.{ReplayOutcome, endedBytes, sizesWrong, ranOf, ranAs}
+use Rattle.panel.specs.Panel.{panelOf}
+use Rattle.sed1520.specs.Chip.{outOfRange}
+use Rattle.trace.specs.Replay.{ReplayOutcome, Lent, lent, endedBytes, sizesWrong, ranOf}
 use Rattle.trace.specs.declared.Ran.{Ran}
 use Rattle.trace.specs.declared.progress.Ending.{Ending}
 use Rattle.trace.specs.declared.progress.Ending.the-variants.{Open, Stopped}
@@ -83,17 +84,23 @@ progressWrong t = ltb 3 (t .kept) || (ltb (t .records) (t .compared) || ltb (t .
 abbrev pub feedOf : Chip → Chip → Progress → Feed
 feedOf left right t = record { left = left; right = right; progress = t }
 
--- number 2 of a feed, or 0: the left chip, the right one, then place 3
-unfoldable pub stateVerdict : Feed → Verdict
-stateVerdict f = unless (λ c. not (inRange c)) 2 (f .left) (f .right) (if (progressWrong (f .progress)) (verdict 2 3) (verdict 0 0))
+-- number 2 of a feed: the left chip, the right one, then place 3
+abbrev pub feedTable : Feed → List Cause
+feedTable f = leftThenRight 2 (outOfRange (f .left)) (outOfRange (f .right)) (cause 2 3 (progressWrong (f .progress)) ∷ [])
 
--- what a part is refused by before its first record, by the lengths of image, part and answers: numbers 1, 13 and 2, or 0
-unfoldable pub partVerdict : Feed → ℕ → ℕ → ℕ → Verdict
-partVerdict f ram part answers =
+-- what a part is refused by before its first record, by the lengths of image, part and answers: numbers 1, 13 and 2
+abbrev pub partTable : Feed → ℕ → ℕ → ℕ → List Cause
+partTable f ram part answers =
     let more = completedBy (f .progress .kept) part in
-    if (sizesWrong part more ram answers) (verdict 1 0)
-    (if (tooMany (f .progress .records) more) (verdict 13 0)
-    (stateVerdict f))
+    cause 1 0 (sizesWrong part more ram answers) ∷ cause 13 0 (tooMany (f .progress .records) more) ∷ feedTable f
+
+-- number 2 of a feed and its place, or 0
+unfoldable pub stateVerdict : Feed → Verdict
+stateVerdict f = verdictBy (feedTable f) (verdict 0 0)
+
+-- numbers 1, 13 and 2 of a part and their place, or 0
+unfoldable pub partVerdict : Feed → ℕ → ℕ → ℕ → Verdict
+partVerdict f ram part answers = verdictBy (partTable f ram part answers) (verdict 0 0)
 
 -- a number and its place with the counts so far
 abbrev pub soFar : Progress → ℕ → ℕ → Ran
@@ -110,24 +117,25 @@ fedWith f n at = fedOf (soFar (f .progress) n at) f
 -- the opening: stopped with number 2 where a chip is out of range
 unfoldable pub openOf : Chip → Chip → Fed
 openOf left right =
-    let v = stateVerdict (feedOf left right (begun Open)) in
-    if (eqb (v .number) 0) (fedWith (feedOf left right (begun Open)) 0 0)
-    (fedWith (feedOf left right (begun (Stopped (v .number) (v .place)))) (v .number) (v .place))
+    unlessRefused (feedTable (feedOf left right (begun Open)))
+    (λ n at. fedWith (feedOf left right (begun (Stopped n at))) n at) (fedWith (feedOf left right (begun Open)) 0 0)
 
 -- a stopped feed repeats its number and place, before any other test; an open one goes on
 abbrev pub unlessStopped : {A : Type 0} → Ending → (ℕ → ℕ → A) → A → A
 unlessStopped Open repeat go = go
 unlessStopped (Stopped n at) repeat go = repeat n at
 
--- what a call gives back, and the image and the answers afterwards
-pub record PartOutcome : Type 0 where
-  pub fed : Fed
-  pub ram : List ℕ
-  pub answers : List ℕ
+-- what a part gives back, and what it leaves: the feed, the image and the answer buffer
+abbrev pub PartOutcome : Type 0
+PartOutcome = Result Ran (Lent Feed)
 
--- all of it as one value
+-- what a part by value gives back, with the image and the answers afterwards
 abbrev pub partOutcome : Fed → List ℕ → List ℕ → PartOutcome
-partOutcome fed ram answers = record { fed = fed; ram = ram; answers = answers }
+partOutcome fed ram answers = result (fed .ran) (lent (fed .feed) ram answers)
+
+-- what a part gives back and the feed that it leaves
+abbrev pub fedBy : PartOutcome → Fed
+fedBy o = fedOf (o .answer) (o .lent .state)
 
 -- the part not taken: the feed, the image and the answer buffer as they came
 abbrev pub notTaken : Feed → List ℕ → List ℕ → ℕ → ℕ → PartOutcome
@@ -142,20 +150,19 @@ unfoldable pub movedOn : Progress → List ℕ → Ran → Progress
 movedOn t bytes ran =
     if (eqb (ran .number) 0) (countedOn t ran (cutOff bytes) Open) (countedOn t ran [] (Stopped (ran .number) (t .records + ran .place)))
 
--- the records of a part, run: place and counts are told from the opening
+-- the records of a part, run: place and counts are counted from the opening
 abbrev pub tookPart : Feed → List ℕ → ReplayOutcome → PartOutcome
 tookPart f bytes o =
-    let t = movedOn (f .progress) bytes (ranAs o) in
-    partOutcome (fedWith (feedOf (o .panel .left) (o .panel .right) t) (o .number) (t .records)) (o .panel .ram) (o .answers)
+    let t = movedOn (f .progress) bytes (o .answer) in
+    let chips = o .lent .state in
+    partOutcome (fedWith (feedOf (chips .left) (chips .right) t) (o .answer .number) (t .records)) (o .lent .ram) (o .lent .answers)
 
 -- a part given to a feed that is open: numbers 1, 13 and 2, then the records
 unfoldable pub openPart : Feed → List ℕ → List ℕ → List ℕ → PartOutcome
 openPart f ram part answers =
-    let v = partVerdict f (length ram) (length part) (length answers) in
     let bytes = joinedTo (f .progress) part in
-    if (eqb (v .number) 0)
+    unlessRefused (partTable f (length ram) (length part) (length answers)) (notTaken f ram answers)
     (tookPart f bytes (endedBytes (panelOf (f .left) (f .right) ram) bytes answers))
-    (notTaken f ram answers (v .number) (v .place))
 
 -- a part given to a feed
 unfoldable pub partOf : Feed → List ℕ → List ℕ → List ℕ → PartOutcome
@@ -170,9 +177,7 @@ stoppedWith f n =
 -- the closing of a feed that is open: number 2, which leaves it open; then 3 where bytes are kept over, else 0. The count of records has 32 bits, so
 -- number 13 has no cause here
 unfoldable pub openClose : Feed → Fed
-openClose f =
-    let v = stateVerdict f in
-    if (eqb (v .number) 0) (stoppedWith f (if (eqb (f .progress .kept) 0) 0 3)) (fedWith f (v .number) (v .place))
+openClose f = unlessRefused (feedTable f) (fedWith f) (stoppedWith f (if (eqb (f .progress .kept) 0) 0 3))
 
 -- the closing: the feed is then stopped
 unfoldable pub closeOf : Feed → Fed

@@ -1,19 +1,18 @@
--- A part given to a feed whose chips lie as records, which are rewritten.
+-- A part given to a feed whose chips lie as bytes, which are rewritten.
 use Prim.Native.Nat.{ℕ}
 use mathlib.Core.Bool.{not}
 use mathlib.Core.List.{List}
 use lib.Dec.{eqb}
 use lib.ListN.{length}
 use Rattle.basics.specs.Choice.{if}
-use Rattle.sed1520.specs.ChipRecord.{chipsIn}
-use Rattle.sed1520.specs.Panel.{panelOf}
+use Rattle.panel.specs.Chips.{chipsIn}
 use Rattle.trace.specs.Replay.{InPlace, inPlace, rewritten}
-use Rattle.trace.specs.Feed.{PartOutcome, soFar, feedOf, partOf}
+use Rattle.trace.specs.Feed.{PartOutcome, soFar, feedOf, unlessStopped, openPart}
 use Rattle.trace.specs.declared.progress.Progress.{Progress}
 use Rattle.trace.specs.declared.feed.Feed.{Feed}
 use Rattle.trace.specs.declared.feed.FedInPlace.{FedInPlace}
 
--- the feed of two chip records
+-- the feed of the bytes of two chips
 abbrev pub feedIn : List ℕ → Progress → Feed
 feedIn chips t = feedOf (chipsIn chips .left) (chipsIn chips .right) t
 
@@ -21,14 +20,16 @@ feedIn chips t = feedOf (chipsIn chips .left) (chipsIn chips .right) t
 abbrev pub fedInPlace : Progress → ℕ → ℕ → FedInPlace
 fedInPlace t n at = record { ran = soFar t n at; progress = t }
 
--- what a part gives back and leaves, its chips written back as records
+-- what a part gives back and leaves, its chips written back as bytes
 abbrev pub asRecords : List ℕ → PartOutcome → InPlace FedInPlace
 asRecords chips o =
-    let f = o .fed .feed in
-    inPlace (record { ran = o .fed .ran; progress = f .progress }) (rewritten chips (panelOf (f .left) (f .right) (o .ram))) (o .ram) (o .answers)
+    let f = o .lent .state in
+    inPlace (record { ran = o .answer; progress = f .progress }) (rewritten chips (f .left) (f .right)) (o .lent .ram) (o .lent .answers)
 
--- number 1 for chips that are not 24 bytes, which are no feed; then the part given to the feed read from the records
+-- a stopped feed repeats its number and place before any other test; then number 1 for chips that are not 24 bytes, which are no feed; then the
+-- part given to the feed read from the bytes
 unfoldable pub partInPlace : List ℕ → Progress → List ℕ → List ℕ → List ℕ → InPlace FedInPlace
 partInPlace chips t ram part answers =
-    if (not (eqb (length chips) 24)) (inPlace (fedInPlace t 1 0) chips ram answers)
-    (asRecords chips (partOf (feedIn chips t) ram part answers))
+    unlessStopped (t .ending) (λ n at. inPlace (fedInPlace t n at) chips ram answers)
+    (if (not (eqb (length chips) 24)) (inPlace (fedInPlace t 1 0) chips ram answers)
+    (asRecords chips (openPart (feedIn chips t) ram part answers)))

@@ -9,13 +9,13 @@ use lib.ListN.{length, take, drop}
 use Rattle.basics.specs.Choice.{if}
 use Rattle.basics.specs.Run.{Run, ranTo}
 use Rattle.sed1520.specs.Cycle.{Reply}
-use Rattle.sed1520.specs.Laws.{Whole}
-use Rattle.sed1520.specs.Panel.{Panel, panelOf, outcomeOf, stepped, after}
+use Rattle.panel.specs.Panel.{Panel, panelOf, outcomeOf, stepped, after, Whole}
 use Rattle.sed1520.specs.Records.{front, wholeRecords}
 use Rattle.sed1520.specs.declared.registers.Chip.{Chip}
 use Rattle.trace.specs.Promises.{Runs, repliesOf}
-use Rattle.trace.specs.Replay.{comparedIn, differingIn, repliesBytes, traceRun, replayOf, ranOf, ranAs}
-use Rattle.trace.specs.Feed.{keeping, cutOff, completedBy, mostRecords, feedOf, fedWith, openOf, PartOutcome, partOutcome, notTaken, partOf}
+use Rattle.panel.specs.Trace.{traceRun}
+use Rattle.trace.specs.Replay.{comparedIn, differingIn, repliesBytes, panelAfter, replayOf, ranOf}
+use Rattle.trace.specs.Feed.{keeping, cutOff, completedBy, mostRecords, feedOf, fedWith, openOf, PartOutcome, partOutcome, fedBy, notTaken, partOf}
 use Rattle.trace.specs.Feed.{closeOf}
 use Rattle.trace.specs.declared.progress.Ending.the-variants.{Open, Stopped}
 use Rattle.trace.specs.declared.feed.Feed.{Feed}
@@ -36,7 +36,7 @@ given f ram x = partOf f ram (x .bytes) (x .buffer)
 
 -- the answers that a part gave: two bytes for each record that it took
 abbrev pub answersOf : Feed → PartOutcome → List ℕ
-answersOf f o = take (2 * (o .fed .feed .progress .records - f .progress .records)) (o .answers)
+answersOf f o = take (2 * (o .lent .state .progress .records - f .progress .records)) (o .lent .answers)
 
 -- parts given one after the other, each to the feed and over the image that the one before it left: what the last call gave back, the image, and all
 -- answers joined
@@ -44,8 +44,8 @@ unfoldable pub fedParts : Fed → List ℕ → List Part → PartOutcome
 fedParts d ram [] = partOutcome d ram []
 fedParts d ram (x ∷ xs) =
     let o = given (d .feed) ram x in
-    let rest = fedParts (o .fed) (o .ram) xs in
-    partOutcome (rest .fed) (rest .ram) (answersOf (d .feed) o ++ rest .answers)
+    let rest = fedParts (fedBy o) (o .lent .ram) xs in
+    partOutcome (fedBy rest) (rest .lent .ram) (answersOf (d .feed) o ++ rest .lent .answers)
 
 -- the same from the opening on a panel
 abbrev pub fedFrom : Panel → List Part → PartOutcome
@@ -59,9 +59,9 @@ BuffersFit kept (x ∷ xs) =
 
 -- opened, fed and closed: number, place, counts, chips, image and answers are those of the replay
 pub record AsReplayed (p : Panel) (trace buffer : List ℕ) (xs : List Part) : Type 0 where
-  pub told : closeOf (fedFrom p xs .fed .feed) .ran ≡ ranAs (replayOf p trace buffer)
-  pub panel : let f = closeOf (fedFrom p xs .fed .feed) .feed in panelOf (f .left) (f .right) (fedFrom p xs .ram) ≡ replayOf p trace buffer .panel
-  pub answers : let o = replayOf p trace buffer in fedFrom p xs .answers ≡ take (2 * o .place) (o .answers)
+  pub told : closeOf (fedFrom p xs .lent .state) .ran ≡ replayOf p trace buffer .answer
+  pub panel : let f = closeOf (fedFrom p xs .lent .state) .feed in panelOf (f .left) (f .right) (fedFrom p xs .lent .ram) ≡ panelAfter (replayOf p trace buffer)
+  pub answers : let o = replayOf p trace buffer in fedFrom p xs .lent .answers ≡ take (2 * o .answer .place) (o .lent .answers)
 
 -- "at any cut": every whole trace that replay takes without numbers 1 to 3, and every list of parts that join to it, parts of length 0 among them
 abbrev pub AtAnyCut : Type 0
@@ -84,7 +84,7 @@ pub record StoppedRepeats : Type 0 where
   pub repeats : (f : Feed) (n at : ℕ) → f .progress .ending ≡ Stopped n at → Repeats f n at
   pub after-open : (left right : Chip) → let d = openOf left right in
       (d .ran .number ≡ 0 → ⊥) → d .feed .progress .ending ≡ Stopped (d .ran .number) (d .ran .place)
-  pub after-part : (f : Feed) (ram bytes answers : List ℕ) → let d = partOf f ram bytes answers .fed in
+  pub after-part : (f : Feed) (ram bytes answers : List ℕ) → let d = fedBy (partOf f ram bytes answers) in
       (d .ran .number ≡ 0 → ⊥) → refusesPart (d .ran .number) ≡ false → d .feed .progress .ending ≡ Stopped (d .ran .number) (d .ran .place)
   pub after-close : (f : Feed) → let d = closeOf f in
       (d .ran .number ≡ 2 → ⊥) → d .feed .progress .ending ≡ Stopped (d .ran .number) (d .ran .place)
@@ -94,7 +94,7 @@ unfoldable pub Taken : Feed → List ℕ → List Part → Type 0
 Taken f ram [] = Unit
 Taken f ram (x ∷ xs) =
     let o = given f ram x in
-    (refusesPart (o .fed .ran .number) ≡ false) × Taken (o .fed .feed) (o .ram) xs
+    (refusesPart (o .answer .number) ≡ false) × Taken (o .lent .state) (o .lent .ram) xs
 
 -- the feed that took these bytes, their whole records run so: open with the bytes past them kept over, or stopped at the refused record
 abbrev pub feedAfter : Run Panel Reply → List ℕ → Feed
@@ -166,7 +166,7 @@ FeedsClose = (p : Panel) → Whole p → (bytes : List ℕ) → traceRun p bytes
 -- "the part is not taken and the feed stays as it was": what is given next goes as if the refused call had not been
 pub record RefusedAsIfNot : Type 0 where
   pub part : (f : Feed) (ram bytes answers : List ℕ) → let o = partOf f ram bytes answers in
-      f .progress .ending ≡ Open → refusesPart (o .fed .ran .number) ≡ true → o ≡ notTaken f ram answers (o .fed .ran .number) (o .fed .ran .place)
+      f .progress .ending ≡ Open → refusesPart (o .answer .number) ≡ true → o ≡ notTaken f ram answers (o .answer .number) (o .answer .place)
   pub next : (d : Fed) (ram : List ℕ) (x y : Part) (xs : List Part) → d .feed .progress .ending ≡ Open
-      → refusesPart (given (d .feed) ram x .fed .ran .number) ≡ true → fedParts d ram (x ∷ y ∷ xs) ≡ fedParts d ram (y ∷ xs)
+      → refusesPart (given (d .feed) ram x .answer .number) ≡ true → fedParts d ram (x ∷ y ∷ xs) ≡ fedParts d ram (y ∷ xs)
   pub close : (f : Feed) → f .progress .ending ≡ Open → closeOf f .ran .number ≡ 2 → closeOf f .feed ≡ f

@@ -1,30 +1,48 @@
--- What a replay over chip records is refused by before its first record, by document 01's table: everything lent stays as it came.
-use Prim.Native.Nat.{ℕ, _/_, _%_}
+-- The numbers that a replay and the calls of a feed give, each exactly when its table says so.
+use Prim.Native.Nat.{ℕ}
 use mathlib.Core.Path.{_≡_}
-use mathlib.Core.Bool.{true, false}
 use mathlib.Core.List.{List}
-use lib.ListN.{length, take, drop}
-use Rattle.sed1520.specs.ChipRecord.{recordRight}
-use Rattle.trace.specs.declared.Ran.{Ran}
-use Rattle.trace.specs.Replay.{InPlace, inPlace, ranNothing, replaySizesWrong, replayInPlace}
+use lib.Dec.{eqb}
+use lib.ListN.{length}
+use Rattle.basics.specs.Choice.{if}
+use Rattle.basics.specs.Table.{First, ExactlyWhen}
+use Rattle.basics.specs.Verdict.{verdict}
+use Rattle.panel.specs.Chips.{panelIn}
+use Rattle.panel.specs.Panel.{Panel, panelOf}
+use Rattle.sed1520.specs.Chip.{outOfRange}
+use Rattle.sed1520.specs.declared.registers.Chip.{Chip}
+use Rattle.trace.specs.Feed.{begun, joinedTo, feedOf, feedTable, partTable, openOf, tookPart, partOf, closeOf}
+use Rattle.trace.specs.Replay.{inPlace, ranNothing, verdictOf, endedBytes, replayTable, replayOf, replayBytesTable, replayInPlace}
+use Rattle.trace.specs.declared.progress.Ending.the-variants.{Open}
+use Rattle.trace.specs.declared.feed.Feed.{Feed}
 
--- a number and its place, all that was lent as it came
-abbrev pub unchanged : List ℕ → List ℕ → List ℕ → ℕ → ℕ → InPlace Ran
-unchanged chips ram answers n at = inPlace (ranNothing n at) chips ram answers
+-- a replay by value gives numbers 1 to 3 exactly when their lines say so, else the number and the place of the records' run
+abbrev pub ReplayNumbers : Type 0
+ReplayNumbers =
+    (p : Panel) (trace answers : List ℕ)
+    → ExactlyWhen (replayTable (outOfRange (p .left)) (outOfRange (p .right)) (length trace) (length (p .ram)) (length answers))
+    (verdictOf (endedBytes p trace answers .answer)) (verdictOf (replayOf p trace answers .answer))
 
--- numbers 1, 2 (left before right) and 3, each where those before it have no cause
-pub record RefusedBefore (chips ram trace answers : List ℕ) : Type 0 where
-  pub chips-wrong : (length chips ≡ 24 → ⊥) → replayInPlace chips ram trace answers ≡ unchanged chips ram answers 1 0
-  pub sizes-wrong : replaySizesWrong (length trace) (length ram) (length answers) ≡ true
-      → replayInPlace chips ram trace answers ≡ unchanged chips ram answers 1 0
-  pub left-wrong : length chips ≡ 24 → replaySizesWrong (length trace) (length ram) (length answers) ≡ false → recordRight (take 12 chips) ≡ false
-      → replayInPlace chips ram trace answers ≡ unchanged chips ram answers 2 0
-  pub right-wrong : length chips ≡ 24 → replaySizesWrong (length trace) (length ram) (length answers) ≡ false → recordRight (take 12 chips) ≡ true
-      → recordRight (drop 12 chips) ≡ false → replayInPlace chips ram trace answers ≡ unchanged chips ram answers 2 1
-  pub cut-short : length chips ≡ 24 → replaySizesWrong (length trace) (length ram) (length answers) ≡ false → recordRight (take 12 chips) ≡ true
-      → recordRight (drop 12 chips) ≡ true → (length trace % 4 ≡ 0 → ⊥)
-      → replayInPlace chips ram trace answers ≡ unchanged chips ram answers 3 (length trace / 4)
+-- so does a replay over chip bytes, by the bytes as they lie
+abbrev pub ReplayBytesNumbers : Type 0
+ReplayBytesNumbers =
+    (chips ram trace answers : List ℕ)
+    → ExactlyWhen (replayBytesTable chips (length trace) (length ram) (length answers))
+    (verdictOf (endedBytes (panelIn chips ram) trace answers .answer)) (verdictOf (replayInPlace chips ram trace answers .answer))
 
--- whatever was lent
+-- and each of these leaves all that was lent as it came
 abbrev pub EveryRefusalBefore : Type 0
-EveryRefusalBefore = (chips ram trace answers : List ℕ) → RefusedBefore chips ram trace answers
+EveryRefusalBefore =
+    (chips ram trace answers : List ℕ) (n at : ℕ) → First (replayBytesTable chips (length trace) (length ram) (length answers)) n at
+    → replayInPlace chips ram trace answers ≡ inPlace (ranNothing n at) chips ram answers
+
+-- the calls of a feed that is not stopped give 1, 13 and 2 exactly when their lines say so; else an opening gives 0, a part the number of its
+-- records' run, and a close 3 or 0, with the records since the opening as place
+pub record FeedNumbers : Type 0 where
+  pub opened : (left right : Chip) → ExactlyWhen (feedTable (feedOf left right (begun Open))) (verdict 0 0) (verdictOf (openOf left right .ran))
+  pub part : (f : Feed) (ram part answers : List ℕ) → f .progress .ending ≡ Open → let bytes = joinedTo (f .progress) part in
+      ExactlyWhen (partTable f (length ram) (length part) (length answers))
+      (verdictOf (tookPart f bytes (endedBytes (panelOf (f .left) (f .right) ram) bytes answers) .answer))
+      (verdictOf (partOf f ram part answers .answer))
+  pub closed : (f : Feed) → f .progress .ending ≡ Open
+      → ExactlyWhen (feedTable f) (verdict (if (eqb (f .progress .kept) 0) 0 3) (f .progress .records)) (verdictOf (closeOf f .ran))

@@ -1,17 +1,24 @@
 -- The replay of a trace: the records one after the other, each answered as its cycle answers it, up to the first refused record.
-use Prim.Native.Nat.{ℕ, _+_, _*_, _/_, _%_}
+use Prim.Native.Nat.{ℕ, _+_, _*_, _/_}
 use mathlib.Core.Bool.{Bool, not, _&&_, _||_}
 use mathlib.Core.List.{List, [], _∷_, _++_, flatMap}
 use lib.Dec.{ltb, eqb}
 use lib.ListN.{length, take, drop}
 use Rattle.basics.specs.Choice.{if}
-use Rattle.sed1520.specs.Chip.{inRange}
-use Rattle.sed1520.specs.ChipRecord.{recordRight, chipsBytes, panelIn}
 use Rattle.basics.specs.Run.{Run}
+use Rattle.basics.specs.Table.{Cause, cause, unlessRefused}
+use Rattle.basics.specs.Verdict.{verdict, Result, result}
+use Rattle.basics.specs.declared.verdict.Verdict.{Verdict}
+use Rattle.sed1520.specs.Chip.{outOfRange}
+use Rattle.sed1520.specs.ChipRecord.{recordRight}
 use Rattle.sed1520.specs.Cycle.{Reply}
-use Rattle.sed1520.specs.Panel.{Panel, panelOf, panelRun}
-use Rattle.sed1520.specs.declared.bus.Record.{Record}
 use Rattle.sed1520.specs.Records.{wholeRecords}
+use Rattle.sed1520.specs.declared.bus.Record.{Record}
+use Rattle.sed1520.specs.declared.registers.Chip.{Chip}
+use Rattle.panel.specs.Chips.{chipsBytes, chipsOf, panelIn}
+use Rattle.panel.specs.Panel.{Panel, panelOf}
+use Rattle.panel.specs.Trace.{traceRun, traceSizesWrong, traceTable}
+use Rattle.panel.specs.declared.chips.Chips.{Chips}
 use Rattle.trace.specs.declared.Ran.{Ran}
 use Rattle.trace.specs.declared.Replayed.{Replayed}
 
@@ -38,19 +45,36 @@ replyBytes a = a .kind ∷ a .byte ∷ []
 abbrev pub repliesBytes : List Reply → List ℕ
 repliesBytes replies = flatMap replyBytes replies
 
--- what a replay gives back, and the panel and the answer buffer afterwards
-pub record ReplayOutcome : Type 0 where
-  pub number : ℕ
-  pub place : ℕ
-  pub compared : ℕ
-  pub differing : ℕ
-  pub panel : Panel
+-- number, place and counts together
+abbrev pub ranOf : ℕ → ℕ → ℕ → ℕ → Ran
+ranOf n at compared differing = record { number = n; place = at; compared = compared; differing = differing }
+
+-- the number and the place of a tally
+abbrev pub verdictOf : Ran → Verdict
+verdictOf r = verdict (r .number) (r .place)
+
+-- what a replay or a part of a feed runs on: both chips or a feed, by value or as bytes, the image of both chips and the answer buffer
+pub record Lent (S : Type 0) : Type 0 where
+  pub state : S
+  pub ram : List ℕ
   pub answers : List ℕ
 
--- all of it as one value
+-- the three together
+abbrev pub lent : {S : Type 0} → S → List ℕ → List ℕ → Lent S
+lent s ram answers = record { state = s; ram = ram; answers = answers }
+
+-- what a replay by value gives back and leaves
+abbrev pub ReplayOutcome : Type 0
+ReplayOutcome = Result Ran (Lent Chips)
+
+-- number, place and counts, with the panel and the answer buffer afterwards
 abbrev pub endedAt : ℕ → ℕ → ℕ → ℕ → Panel → List ℕ → ReplayOutcome
 endedAt n at compared differing p answers =
-    record { number = n; place = at; compared = compared; differing = differing; panel = p; answers = answers }
+    result (ranOf n at compared differing) (lent (chipsOf (p .left) (p .right)) (p .ram) answers)
+
+-- the panel that a replay leaves
+abbrev pub panelAfter : ReplayOutcome → Panel
+panelAfter o = panelOf (o .lent .state .left) (o .lent .state .right) (o .lent .ram)
 
 -- refused before the first record: nothing is changed and nothing compared
 abbrev pub refusedAt : ℕ → ℕ → Panel → List ℕ → ReplayOutcome
@@ -62,69 +86,58 @@ ended r rs answers =
     endedAt (r .number) (length (r .answers)) (comparedIn (r .answers)) (differingIn (r .answers) rs) (r .state)
     (repliesBytes (r .answers) ++ drop (2 * length (r .answers)) answers)
 
--- the run of a trace's whole records
-abbrev pub traceRun : Panel → List ℕ → Run Panel Reply
-traceRun p trace = panelRun p (wholeRecords trace)
-
 -- how the whole records of bytes end on a panel
 abbrev pub endedBytes : Panel → List ℕ → List ℕ → ReplayOutcome
 endedBytes p bytes answers = ended (traceRun p bytes) (wholeRecords bytes) answers
 
--- number 1: over 65,536 bytes, an image that is not 640, answers under two bytes for each of so many records
-unfoldable pub sizesWrong : ℕ → ℕ → ℕ → ℕ → Bool
-sizesWrong bytes records ram answers = ltb 65536 bytes || (not (eqb ram 640) || ltb answers (2 * records))
+-- number 1 of a replay or a part that answers so many records: document 01's sizes, answers under two bytes for each of them among these
+abbrev pub sizesWrong : ℕ → ℕ → ℕ → ℕ → Bool
+sizesWrong bytes records ram answers = traceSizesWrong bytes ram (ltb answers (2 * records))
 
--- of a replay: each whole record of the trace is answered
-abbrev pub replaySizesWrong : ℕ → ℕ → ℕ → Bool
-replaySizesWrong trace ram answers = sizesWrong trace (trace / 4) ram answers
+-- numbers 1 to 3 of a replay, by whether the left chip and the right one are out of range and by the lengths of trace, image and answers: each
+-- whole record of the trace is answered
+abbrev pub replayTable : Bool → Bool → ℕ → ℕ → ℕ → List Cause
+replayTable left right trace ram answers = traceTable (sizesWrong trace (trace / 4) ram answers) left right trace []
 
--- numbers 1, 2 (left before right) and 3, then the records
+-- the replay: numbers 1 to 3, then the records
 unfoldable pub replayOf : Panel → List ℕ → List ℕ → ReplayOutcome
 replayOf p trace answers =
-    if (replaySizesWrong (length trace) (length (p .ram)) (length answers)) (refusedAt 1 0 p answers)
-    (if (not (inRange (p .left))) (refusedAt 2 0 p answers)
-    (if (not (inRange (p .right))) (refusedAt 2 1 p answers)
-    (if (not (eqb (length trace % 4) 0)) (refusedAt 3 (length trace / 4) p answers)
-    (endedBytes p trace answers))))
+    unlessRefused (replayTable (outOfRange (p .left)) (outOfRange (p .right)) (length trace) (length (p .ram)) (length answers))
+    (λ n at. refusedAt n at p answers) (endedBytes p trace answers)
 
 -- what the function gives back and leaves in what it was lent, as an outcome
 abbrev pub replayOutcome : Replayed → List ℕ → List ℕ → ReplayOutcome
 replayOutcome r ram answers = endedAt (r .number) (r .place) (r .compared) (r .differing) (panelOf (r .left) (r .right) ram) answers
 
--- what a replay or a part over chip records gives back, and what it leaves in the records, the image and the answer buffer
-pub record InPlace (A : Type 0) : Type 0 where
-  pub answer : A
-  pub chips : List ℕ
-  pub ram : List ℕ
-  pub answers : List ℕ
+-- what a call over chip bytes gives back, and what it leaves in the bytes, the image and the answer buffer
+abbrev pub InPlace : Type 0 → Type 0
+InPlace A = Result A (Lent (List ℕ))
 
--- all of it as one value
+-- an answer with what is left in the three
 abbrev pub inPlace : {A : Type 0} → A → List ℕ → List ℕ → List ℕ → InPlace A
-inPlace a chips ram answers = record { answer = a; chips = chips; ram = ram; answers = answers }
-
--- number, place and counts together
-abbrev pub ranOf : ℕ → ℕ → ℕ → ℕ → Ran
-ranOf n at compared differing = record { number = n; place = at; compared = compared; differing = differing }
-
--- the number, the place and the counts of an outcome
-abbrev pub ranAs : ReplayOutcome → Ran
-ranAs o = ranOf (o .number) (o .place) (o .compared) (o .differing)
+inPlace a chips ram answers = result a (lent chips ram answers)
 
 -- no record run
 abbrev pub ranNothing : ℕ → ℕ → Ran
 ranNothing n at = ranOf n at 0 0
 
--- two records that number 2 lets pass become those of a panel's chips; any others stay
-abbrev pub rewritten : List ℕ → Panel → List ℕ
-rewritten chips p = if (recordRight (take 12 chips) && recordRight (drop 12 chips)) (chipsBytes (p .left) (p .right)) chips
+-- bytes of both chips that number 2 lets pass become those of a panel's chips; any others stay
+abbrev pub rewritten : List ℕ → Chip → Chip → List ℕ
+rewritten chips left right = if (recordRight (take 12 chips) && recordRight (drop 12 chips)) (chipsBytes left right) chips
 
--- an outcome on the panel, its chips written back as records
+-- an outcome on the panel, its chips written back as bytes
 abbrev pub overRecords : List ℕ → ReplayOutcome → InPlace Ran
 overRecords chips o =
-    inPlace (ranAs o) (rewritten chips (o .panel)) (o .panel .ram) (o .answers)
+    inPlace (o .answer) (rewritten chips (o .lent .state .left) (o .lent .state .right)) (o .lent .ram) (o .lent .answers)
 
--- number 1 for chips that are not 24 bytes, then the replay on the panel read from the records
+-- numbers 1 to 3 of a replay over chip bytes as they lie: number 1 also for chips that are not 24 bytes
+abbrev pub replayBytesTable : List ℕ → ℕ → ℕ → ℕ → List Cause
+replayBytesTable chips trace ram answers =
+    cause 1 0 (not (eqb (length chips) 24))
+    ∷ replayTable (not (recordRight (take 12 chips))) (not (recordRight (drop 12 chips))) trace ram answers
+
+-- the replay over chip bytes: numbers 1 to 3, then the records on the panel read from them
 unfoldable pub replayInPlace : List ℕ → List ℕ → List ℕ → List ℕ → InPlace Ran
 replayInPlace chips ram trace answers =
-    if (not (eqb (length chips) 24)) (inPlace (ranNothing 1 0) chips ram answers)
-    (overRecords chips (replayOf (panelIn chips ram) trace answers))
+    unlessRefused (replayBytesTable chips (length trace) (length ram) (length answers))
+    (λ n at. inPlace (ranNothing n at) chips ram answers) (overRecords chips (endedBytes (panelIn chips ram) trace answers))

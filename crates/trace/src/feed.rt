@@ -5,25 +5,25 @@ ghost use mathlib.Core.Path.{_≡_};
 ghost use mathlib.Core.List.{_++_};
 ghost use lib.ListN.{length};
 ghost use Rattle.basics.specs.Choice.{if};
-ghost use Rattle.sed1520.specs.ChipRecord.{panelIn, RecordsFit};
-ghost use Rattle.sed1520.specs.Verdict.{verdict};
+ghost use Rattle.panel.specs.Chips.{panelIn, RecordsFit};
+ghost use Rattle.basics.specs.Verdict.{verdict};
 ghost use Rattle.trace.specs.Replay.{inPlace, endedBytes, overRecords};
 ghost use Rattle.trace.specs.Feed.{joinedTo, completedBy, tooMany, progressWrong, feedOf, stateVerdict, partVerdict, fedWith};
 ghost use Rattle.trace.specs.Feed.{openOf, partOutcome, openPart, partOf, stoppedWith, openClose, closeOf};
 ghost use Rattle.trace.specs.FeedInPlace.{fedInPlace, feedIn, asRecords, partInPlace};
 use crate::ANSWER_BYTES;
-use crate::RECORD_BYTES;
 use crate::Ran;
 use crate::progress::Ending;
 use crate::progress::Progress;
 use crate::ran_nothing;
 use crate::run;
 use crate::sizes_wrong;
-use sed1520::chip_record::CHIPS_BYTES;
-use sed1520::chip_record::chips_bytes;
-use sed1520::chip_record::chips_in;
+use panel::chips::CHIPS_BYTES;
+use panel::chips::chips_bytes;
+use panel::chips::chips_in;
+use sed1520::bus::RECORD_BYTES;
 use sed1520::registers::Chip;
-use sed1520::verdict::Verdict;
+use basics::verdict::Verdict;
 
 // The most records that a feed may take.
 pub const MAX_RECORDS: u64 = 4294967295;
@@ -164,13 +164,15 @@ pub fn part_in_place(
     ensures { λ r. ⌜ inPlace r (now (chips .exit)) (now (ram .exit)) (now (answers .exit))
         ≡ partInPlace (now (chips .entry)) progress (now (ram .entry)) (now (part .entry)) (now (answers .entry)) ⌝ }
 {
-    if chips.len() != CHIPS_BYTES {
-        return told_in_place(progress, 1, 0);
-    }
     let ending = progress.ending;
     match ending {
         Ending::Stopped(number, place) => told_in_place(progress, number, place as u64),
-        Ending::Open => open_part(chips, progress, ram, part, answers),
+        Ending::Open => {
+            if chips.len() != CHIPS_BYTES {
+                return told_in_place(progress, 1, 0);
+            }
+            open_part(chips, progress, ram, part, answers)
+        }
     }
 }
 

@@ -10,25 +10,20 @@ ghost use mathlib.Core.Bool.{_&&_, not};
 ghost use lib.Dec.{eqb};
 ghost use lib.ListN.{length};
 ghost use Rattle.basics.specs.Choice.{if};
-ghost use Rattle.sed1520.specs.ChipRecord.{panelIn, RecordsFit};
-ghost use Rattle.sed1520.specs.Panel.{panelOf};
+ghost use Rattle.panel.specs.Chips.{panelIn, RecordsFit};
+ghost use Rattle.panel.specs.Panel.{panelOf};
 ghost use Rattle.trace.specs.Replay.{isCompared, ranNothing, replayOutcome, endedBytes, sizesWrong, replayOf};
 ghost use Rattle.trace.specs.Replay.{inPlace, overRecords, replayInPlace};
-use sed1520::bus::IMAGE_BYTES;
+use sed1520::bus::RECORD_BYTES;
 use sed1520::bus::Record;
-use sed1520::chip_record::CHIPS_BYTES;
-use sed1520::chip_record::chips_bytes;
-use sed1520::chip_record::chips_in;
-use sed1520::record_step::step_of_tested_records;
+use panel::chips::CHIPS_BYTES;
+use panel::chips::chips_bytes;
+use panel::chips::chips_in;
+use panel::step::step_of_tested_chips;
+use panel::trace::trace_verdict;
 use sed1520::registers::Chip;
 
-// The most bytes that a trace that is replayed, or a part of a feed, may have.
-pub const TRACE_BYTES: usize = 65536;
-
-// The bytes of a record.
-pub const RECORD_BYTES: usize = 4;
-
-// The bytes of its answer.
+// The bytes of a record's answer.
 pub const ANSWER_BYTES: usize = 2;
 
 // What a replay gives back beside what it was lent: the number and its place, how many reads were compared with the
@@ -89,7 +84,7 @@ pub(crate) fn run(chips: &mut [u8], ram: &mut [u8], trace: &[u8], answers: &mut 
             byte: trace[from + 2],
             spare: trace[from + 3],
         };
-        let answer = step_of_tested_records(bus, chips, ram);
+        let answer = step_of_tested_chips(bus, chips, ram);
         if answer.number != 0 {
             return Ran {
                 number: answer.number,
@@ -133,21 +128,18 @@ pub fn replay_in_place(chips: &mut [u8], ram: &mut [u8], trace: &[u8], answers: 
     if chips.len() != CHIPS_BYTES {
         return ran_nothing(1, 0);
     }
-    let records = trace.len() / RECORD_BYTES;
-    if sizes_wrong(trace.len(), records, ram.len(), answers.len()) {
-        return ran_nothing(1, 0);
-    }
+    let wrong = sizes_wrong(
+        trace.len(),
+        trace.len() / RECORD_BYTES,
+        ram.len(),
+        answers.len(),
+    );
     let both = chips_in(chips);
     let left = both.left;
-    if !left.in_range() {
-        return ran_nothing(2, 0);
-    }
     let right = both.right;
-    if !right.in_range() {
-        return ran_nothing(2, 1);
-    }
-    if trace.len() % RECORD_BYTES != 0 {
-        return ran_nothing(3, records as u64);
+    let verdict = trace_verdict(wrong, left, right, trace.len());
+    if verdict.number != 0 {
+        return ran_nothing(verdict.number, verdict.place);
     }
     run(chips, ram, trace, answers)
 }
@@ -172,15 +164,9 @@ pub fn replay(left: Chip, right: Chip, ram: &mut [u8], trace: &[u8], answers: &m
     }
 }
 
-// Number 1: more bytes than one call may take, an image that is not 640, or fewer than two answer bytes for each record.
+// Number 1 of a call that answers so many records.
 pub(crate) fn sizes_wrong(bytes: usize, records: usize, ram: usize, answers: usize) -> bool
     ensures { λ r. ⌜ r ≡ sizesWrong bytes records ram answers ⌝ }
 {
-    if TRACE_BYTES < bytes {
-        return true;
-    }
-    if ram != IMAGE_BYTES {
-        return true;
-    }
-    answers / ANSWER_BYTES < records
+    panel::trace::sizes_wrong(bytes, ram, answers / ANSWER_BYTES < records)
 }

@@ -3,8 +3,8 @@ ghost use Prim.Native.Nat.{_+_, _≤_};
 ghost use mathlib.Core.Path.{_≡_};
 ghost use lib.ListN.{length, getD};
 ghost use Rattle.trace.specs.Feed.{begun, stoppedAt, soFar, progressWrong, joinedTo, movedOn};
-use crate::RECORD_BYTES;
 use crate::Ran;
+use sed1520::bus::RECORD_BYTES;
 
 // Whether a feed takes parts, or is stopped with the number and the place that it repeats.
 pub enum Ending {

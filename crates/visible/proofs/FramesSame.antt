@@ -13,7 +13,7 @@ use Rattle.basics.specs.Choice.{if}
 use Rattle.basics.proofs.Bytes.{are-same, not-same}
 use Rattle.basics.proofs.Counts.{sum-zeros, sum-is-zero}
 use Rattle.basics.proofs.Tests.{tested}
-use Rattle.sed1520.specs.Panel.{Panel, chipAt, ramAt}
+use Rattle.panel.specs.Panel.{Panel, chipAt, ramAt}
 use Rattle.sed1520.specs.declared.registers.Chip.{Chip}
 use Rattle.frame.specs.Frame.{segments, pixel, frameByte, frameOf, framePlace}
 use Rattle.frame.proofs.HalfLaws.{half-laws}
@@ -21,15 +21,15 @@ use Rattle.frame.proofs.Places.{same-places}
 use Rattle.visible.specs.Changes.{segmentChanged, halfChanged, pixelsChanged}
 
 -- a pixel counted as none does not differ
-told-equal : (a b : ℕ) → _≡_ {A = ℕ} (if (not (eqb a b)) 1 0) 0 → a ≡ b
-told-equal a b e = ⊎-elim (λ t. eqb-true a b t) (λ t. absurd (let one = rw t at e in omega arith)) (tested (eqb a b))
+not-counted : (a b : ℕ) → _≡_ {A = ℕ} (if (not (eqb a b)) 1 0) 0 → a ≡ b
+not-counted a b e = ⊎-elim (λ t. eqb-true a b t) (λ t. absurd (let one = rw t at e in omega arith)) (tested (eqb a b))
 
 module _ (c : Chip) (ram : List ℕ) (d : Chip) (other : List ℕ) where
   -- a half without a changed pixel, and one whose bytes are the same
   pixels-equal : halfChanged c ram d other ≡ 0 → (n row : ℕ) → n < segments → row < 32 → pixel c ram n row ≡ pixel d other n row
   unfolding halfChanged
   pixels-equal none n row driven h =
-      told-equal _ _ (sum-is-zero _ 32 (sum-is-zero (segmentChanged c ram d other) segments none n driven) row h)
+      not-counted _ _ (sum-is-zero _ 32 (sum-is-zero (segmentChanged c ram d other) segments none n driven) row h)
 
   none-changed : ((n r : ℕ) → n < segments → r < 4 → frameByte c ram n r ≡ frameByte d other n r) → halfChanged c ram d other ≡ 0
   unfolding halfChanged
@@ -62,9 +62,9 @@ module _ (p q : Panel) where
       none-changed (chipAt p k) (ramAt p k) (chipAt q k) (ramAt q k) (λ n r driven row.
       sym (half-laws .place p k n r driven row) ∙ ap (λ (f : List ℕ). getD f (framePlace k n r) 0) same ∙ half-laws .place q k n r driven row)
 
-  -- so the bytes tell what the counts tell
-  pub frames-told : sameBytes (frameOf p) (frameOf q) ≡ eqb (pixelsChanged p q 0 + pixelsChanged p q 1) 0
-  frames-told =
+  -- so the bytes are the same exactly when both counts are 0
+  pub frames-by-counts : sameBytes (frameOf p) (frameOf q) ≡ eqb (pixelsChanged p q 0 + pixelsChanged p q 1) 0
+  frames-by-counts =
       ⊎-elim
       (λ t. let none = eqb-true (pixelsChanged p q 0 + pixelsChanged p q 1) 0 t in
       rw t (are-same (frameOf p) (frameOf q) (no-pixels-same (omega arith) (omega arith))))

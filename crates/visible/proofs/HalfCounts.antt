@@ -6,12 +6,12 @@ use mathlib.Core.Path.{_≡_, refl}
 use mathlib.Core.Bool.{Bool, not}
 use mathlib.Core.List.{List}
 use lib.Dec.{eqb}
-use lib.ListN.{length}
 use borrow.Author.Tests.{eq-eqb}
 use Rattle.basics.specs.Choice.{if}
 use Rattle.basics.specs.Counts.{sumBelow, countBelow}
 use Rattle.basics.proofs.Counts.{sum-same, sum-zeros, sum-one, sum-at-most}
 use Rattle.basics.proofs.Tests.{when}
+use Rattle.sed1520.specs.Laws.{Fit}
 use Rattle.sed1520.specs.declared.registers.Chip.{Chip}
 use Rattle.frame.specs.Frame.{segments, pixel, segmentPixels}
 use Rattle.frame.specs.Laws.{SameShown}
@@ -29,14 +29,14 @@ count-at-most test n =
     omega (arith, most)
 
 module _ (c : Chip) (ram : List ℕ) (d : Chip) (other : List ℕ) where
-  pub segment-counted : length ram ≡ 320 → length other ≡ 320 → (n : ℕ) → n < segments
-      → bitsDiffering (segmentPixels c ram n) (segmentPixels d other n) ≡ segmentChanged c ram d other n
-  segment-counted bytes bytes′ n driven =
+  pub segment-counted : Fit c ram → Fit d other → (n : ℕ) → n < segments
+      → bitsDiffering (segmentPixels c ram n .pixels) (segmentPixels d other n .pixels) ≡ segmentChanged c ram d other n
+  segment-counted fit fit′ n driven =
       sum-same _ _ 32 (λ row h.
       let e : 0 + row ≡ row = omega arith in
       rw (
-        rows-packed c ram n bytes driven,
-        rows-packed d other n bytes′ driven,
+        rows-packed c ram n fit driven,
+        rows-packed d other n fit′ driven,
         packed-bit (pixel c ram n) (pixel-small c ram n) 32 0 row h,
         packed-bit (pixel d other n) (pixel-small d other n) 32 0 row h,
         e,

@@ -13,13 +13,14 @@ use Rattle.basics.specs.Choice.{if}
 use Rattle.basics.specs.Counts.{sumBelow}
 use Rattle.basics.proofs.Tests.{tested, both}
 use Rattle.sed1520.specs.Cycle.{Outcome, cycleOf}
-use Rattle.sed1520.specs.Laws.{shownBy}
+use Rattle.sed1520.specs.Laws.{Fit, shownBy}
 use Rattle.sed1520.specs.declared.bus.Record.{Record}
 use Rattle.sed1520.specs.declared.registers.Chip.{Chip}
 use Rattle.sed1520.proofs.CycleKeeps.{every-cycle-keeps}
 use Rattle.sed1520.proofs.CycleTouches.{every-cycle-touches}
 use Rattle.frame.specs.Frame.{segments, columnOf, segmentPixels}
 use Rattle.frame.specs.Laws.{SameShown}
+use Rattle.frame.specs.declared.segment.Segment.{Segment}
 use Rattle.frame.proofs.HalfLaws.{half-laws}
 use Rattle.frame.proofs.Lines.{no-segment}
 use Rattle.visible.specs.Changes.{halfChanged}
@@ -50,9 +51,9 @@ unlike true false e same = true≢false same
 unlike false true e same = false≢true same
 unlike false false e same = true≢false e
 
-pub told-same : (c d : Chip) → sameRegisters c d ≡ true → shownBy d ≡ shownBy c
+pub registers-alike : (c d : Chip) → sameRegisters c d ≡ true → shownBy d ≡ shownBy c
 unfolding sameRegisters
-told-same c d t =
+registers-alike c d t =
     let display = both (Bool·beq (c .«display_on») (d .«display_on»)) _ t in
     let static = both (Bool·beq (c .«static_on») (d .«static_on»)) _ (display .1) in
     let duty = both (Bool·beq (c .«duty_32») (d .«duty_32»)) _ (static .1) in
@@ -86,24 +87,31 @@ module _ (r : Record) (c : Chip) (ram : List ℕ) (o : Outcome) (e : o ≡ cycle
             rw e (sym (every-cycle-touches r c ram .columns-kept _ (columnOf c n) (half-laws .column c n driven) (other-column c n driven apart)));
       }
 
-  pub left-whole : length ram ≡ 320 → length (o .ram) ≡ 320
-  left-whole bytes = rw e (every-cycle-keeps r c ram .same-size) ∙ bytes
+  -- a chip that fits its RAM fits it after the record, and the chip as it was still fits it
+  left-bytes : length ram ≡ 320 → length (o .ram) ≡ 320
+  left-bytes bytes = rw e (every-cycle-keeps r c ram .same-size) ∙ bytes
+
+  pub still-fits : Fit c ram → Fit c (o .ram)
+  still-fits fit = record { range = fit .range; bytes = left-bytes (fit .bytes) }
+
+  pub next-fits : Fit c ram → Fit next (o .ram)
+  next-fits fit = record { range = rw e (every-cycle-keeps r c ram .range (fit .range)); bytes = left-bytes (fit .bytes) }
 
   -- what a record comes to, its pixels counted
   pub seen : (n : ℕ) → n ≡ halfChanged c ram next (o .ram)
       → halfSight (record { number = o .answer .number; chip = next; pixels = n }) (o .ram) ≡ halfSightOf r c ram
   seen n counted = rw (counted, e)
 
-  pub write-sight : length ram ≡ 320 → (r .lines ≡ 2 → ⊥) → {n one two : ℕ} → n ≡ columnOf c (c .column) → one ≡ segmentPixels c ram n
-      → two ≡ segmentPixels next (o .ram) n → bitsDiffering one two ≡ halfChanged c ram next (o .ram)
+  pub write-sight : Fit c ram → (r .lines ≡ 2 → ⊥) → {n : ℕ} {one two : Segment} → n ≡ columnOf c (c .column) → one ≡ segmentPixels c ram n
+      → two ≡ segmentPixels next (o .ram) n → bitsDiffering (one .pixels) (two .pixels) ≡ halfChanged c ram next (o .ram)
   unfolding sumBelow
-  write-sight bytes other {n} here is-one is-two =
+  write-sight fit other {n} here is-one is-two =
       let others : (m : ℕ) → m < segments → (m ≡ n → ⊥) → SameShown c next ram (o .ram) m =
       λ m driven apart. other-segments other m driven (λ same. apart (same ∙ sym here)) in
       rw (is-one, is-two)
       (⊎-elim
       (λ t. let driven = ltb-true n segments t in
-      segment-counted c ram next (o .ram) bytes (left-whole bytes) n driven
+      segment-counted c ram next (o .ram) fit (next-fits fit) n driven
       ∙ sym (one-segment c ram next (o .ram) n driven others))
       (λ t. let past = ltb-false n segments t in
       rw (no-segment c ram n past, no-segment next (o .ram) n past)

@@ -7,5 +7,4 @@ pub mod Listings
 pub mod Walking
 pub mod ChangesCases
 pub mod Unseen
-pub mod AsReplay
 pub mod Listed

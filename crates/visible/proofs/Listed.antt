@@ -14,19 +14,19 @@ use Rattle.basics.proofs.Chosen.{ChosenList, chosen-list}
 use Rattle.basics.proofs.Run.{run-keeps, leads-or-stays}
 use Rattle.basics.proofs.Tests.{tested}
 use Rattle.sed1520.specs.Laws.{sent}
-use Rattle.sed1520.specs.Panel.{Panel, stepped, panelTurn}
+use Rattle.panel.specs.Panel.{Panel, stepped, panelTurn}
 use Rattle.sed1520.specs.declared.bus.Record.{Record}
-use Rattle.sed1520.proofs.PanelLaws.{every-record-apart}
+use Rattle.panel.proofs.PanelLaws.{every-record-apart}
 use Rattle.visible.specs.Changes.{before, changedAt, pixelsChanged, Entry, entryOf, entryAt, entriesOf}
 use Rattle.visible.specs.Promises.{entryNo, Listed, Unseen, EntrySays, EveryListSays}
 use Rattle.visible.proofs.FramesSame.{no-pixels-same, same-no-pixels}
 use Rattle.visible.proofs.PanelSights.{other-pixels}
 
--- one half has the pixels that it had
+-- one of the two halves has the pixels that it had
 abbrev HalfSame : Panel → Panel → Type 0
 HalfSame p q = (pixelsChanged p q 0 ≡ 0) ⊎ (pixelsChanged p q 1 ≡ 0)
 
--- that of the chip that the record does not go to
+-- the half of the chip that a record does not go to
 stepped-half : (p : Panel) → length (p .ram) ≡ 640 → (r : Record) → HalfSame p (stepped p r)
 stepped-half p image r =
     ⊎-elim
@@ -35,18 +35,18 @@ stepped-half p image r =
     (tested (eqb (r .chip) 0))
 
 module _ (p : Panel) (rs : List Record) where
-  told-unseen : (k : ℕ) → changedAt p rs k ≡ false → Unseen p rs k
-  told-unseen k t = sym (same-bytes _ _ (not-false _ t))
+  same-unseen : (k : ℕ) → changedAt p rs k ≡ false → Unseen p rs k
+  same-unseen k t = sym (same-bytes _ _ (not-false _ t))
 
-  told-seen : (k : ℕ) → changedAt p rs k ≡ true → Unseen p rs k → ⊥
-  told-seen k t unseen = true≢false (sym (are-same _ _ (sym unseen)) ∙ not-true _ t)
+  changed-seen : (k : ℕ) → changedAt p rs k ≡ true → Unseen p rs k → ⊥
+  changed-seen k t unseen = true≢false (sym (are-same _ _ (sym unseen)) ∙ not-true _ t)
 
   chosen : ChosenList (changedAt p rs) (entryAt p rs) (λ (e : Entry). e .index) (λ k. refl) (entryOf 0 0 0) 0 (length rs) (entriesOf p rs)
   chosen = chosen-list _ _ _ _ _ 0 (length rs)
 
   listed-or-unseen : (k : ℕ) → k < length rs → Listed p rs k ⊎ Unseen p rs k
   listed-or-unseen k h =
-      ⊎-elim (λ t. inl (chosen .every k (omega arith) (omega arith) t)) (λ t. inr (told-unseen k t)) (tested (changedAt p rs k))
+      ⊎-elim (λ t. inl (chosen .every k (omega arith) (omega arith) t)) (λ t. inr (same-unseen k t)) (tested (changedAt p rs k))
 
   module _ (image : length (p .ram) ≡ 640) where
     whole-before : (k : ℕ) → length (before p rs k .ram) ≡ 640
@@ -70,8 +70,8 @@ module _ (p : Panel) (rs : List Record) where
         record {
           within = within;
           counts = own .itself;
-          seen = told-seen k (own .holds);
-          some = λ none. told-seen k (own .holds) (sym (no-pixels-same (before p rs k) (before p rs (suc k)) (omega arith) (omega arith)));
+          seen = changed-seen k (own .holds);
+          some = λ none. changed-seen k (own .holds) (sym (no-pixels-same (before p rs k) (before p rs (suc k)) (omega arith) (omega arith)));
           one-half = ⊎-elim (λ e. inl (left ∙ e)) (λ e. inr (right ∙ e)) (one-half-same k within);
         }
 

@@ -13,10 +13,10 @@ use Rattle.basics.specs.Choice.{if}
 use Rattle.basics.specs.Halves.{partPut}
 use Rattle.basics.proofs.Tests.{tested}
 use Rattle.sed1520.specs.Cycle.{Outcome}
-use Rattle.sed1520.specs.Panel.{Panel, panelOf, chipAt, ramAt, outcomeOf, stepped}
+use Rattle.panel.specs.Panel.{Panel, panelOf, chipAt, ramAt, outcomeOf, stepped}
 use Rattle.sed1520.specs.declared.bus.Record.{Record}
 use Rattle.sed1520.proofs.CycleKeeps.{every-cycle-keeps}
-use Rattle.sed1520.proofs.PanelLaws.{every-record-apart}
+use Rattle.panel.proofs.PanelLaws.{every-record-apart}
 use Rattle.visible.specs.Changes.{halfChanged, pixelsChanged}
 use Rattle.visible.specs.Sight.{HalfSight, halfSight, halfSightOf, Sight, sight, sightOf}
 use Rattle.sed1520.specs.declared.registers.Chip.{Chip}
@@ -35,13 +35,13 @@ sights e f g = rw (e, f, g)
 pub left-length : (ram : List ℕ) → length ram ≡ 640 → (r : Record) (c : Chip) {s : Seen} {bytes : List ℕ}
     → halfSight s bytes ≡ halfSightOf r c (take 320 ram) → length (bytes ++ drop 320 ram) ≡ length ram
 left-length ram image r c {bytes = bytes} e =
-    let own = ap (λ (h : HalfSight). length (h .ram)) e ∙ every-cycle-keeps r c (take 320 ram) .same-size in
+    let own = ap (λ (h : HalfSight). length (h .lent)) e ∙ every-cycle-keeps r c (take 320 ram) .same-size in
     length-append bytes (drop 320 ram) ∙ omega (arith, own, length-take-le 320 ram (omega arith), length-drop 320 ram)
 
 pub right-length : (ram : List ℕ) → length ram ≡ 640 → (r : Record) (c : Chip) {s : Seen} {bytes : List ℕ}
     → halfSight s bytes ≡ halfSightOf r c (drop 320 ram) → length (take 320 ram ++ bytes) ≡ length ram
 right-length ram image r c {bytes = bytes} e =
-    let own = ap (λ (h : HalfSight). length (h .ram)) e ∙ every-cycle-keeps r c (drop 320 ram) .same-size in
+    let own = ap (λ (h : HalfSight). length (h .lent)) e ∙ every-cycle-keeps r c (drop 320 ram) .same-size in
     length-append (take 320 ram) bytes ∙ omega (arith, own, length-take-le 320 ram (omega arith), length-drop 320 ram)
 
 module _ (p : Panel) (image : length (p .ram) ≡ 640) (r : Record) where
@@ -77,8 +77,8 @@ module _ (p : Panel) (image : length (p .ram) ≡ 640) (r : Record) where
   abbrev seenFrom : HalfSight → Sight
   seenFrom h =
       let left = eqb k 0 in
-      sight (h .seen .number) (panelOf (if left (h .seen .chip) (p .left)) (if left (p .right) (h .seen .chip)) (partPut 320 k (p .ram) (h .ram)))
-      (if left (h .seen .pixels) 0) (if left 0 (h .seen .pixels))
+      sight (h .answer .number) (panelOf (if left (h .answer .chip) (p .left)) (if left (p .right) (h .answer .chip)) (partPut 320 k (p .ram) (h .lent)))
+      (if left (h .answer .pixels) 0) (if left 0 (h .answer .pixels))
 
   panel-sight : (h : HalfSight) → h ≡ halfSightOf r (chipAt p k) (ramAt p k) → seenFrom h ≡ sightOf p r
   panel-sight h e =

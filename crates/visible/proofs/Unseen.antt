@@ -6,9 +6,9 @@ use mathlib.Core.Bool.{Bool·beq}
 use lib.Dec.{eqb}
 use lib.ListN.{length}
 use Rattle.basics.proofs.Tests.{when}
-use Rattle.sed1520.specs.Panel.{Panel, chipAt, ramAt, outcomeOf, stepped}
+use Rattle.panel.specs.Panel.{Panel, chipAt, ramAt, outcomeOf, stepped}
 use Rattle.sed1520.specs.declared.bus.Record.{Record}
-use Rattle.sed1520.proofs.PanelLaws.{every-record-apart, refused-record}
+use Rattle.panel.proofs.PanelLaws.{every-record-apart, refused-record}
 use Rattle.frame.specs.Frame.{frameOf}
 use Rattle.visible.specs.Changes.{halfChanged, pixelsChanged}
 use Rattle.visible.specs.Promises.{ReadsAndRefusalsUnseen}

@@ -16,18 +16,17 @@ use Rattle.basics.proofs.Lists.{joined-next}
 use Rattle.basics.proofs.Run.{one-more, refused-next}
 use Rattle.basics.proofs.Tests.{when}
 use Rattle.sed1520.specs.Cycle.{Reply}
-use Rattle.sed1520.specs.Laws.{Whole}
-use Rattle.sed1520.specs.Panel.{Panel, panelOf, outcomeOf, stepped, panelTurn, panelRun}
+use Rattle.panel.specs.Panel.{Panel, panelOf, outcomeOf, stepped, panelTurn, panelRun, Whole}
 use Rattle.sed1520.specs.Records.{wholeRecords}
 use Rattle.sed1520.specs.declared.bus.Record.{Record}
 use Rattle.sed1520.specs.declared.registers.Chip.{Chip}
-use Rattle.sed1520.proofs.PanelLaws.{refused-record, stepped-whole}
+use Rattle.panel.proofs.PanelLaws.{refused-record, stepped-whole}
 use Rattle.sed1520.proofs.Records.{recordFrom, front-at, records-length, record-at}
-use Rattle.trace.specs.Replay.{traceRun}
+use Rattle.panel.specs.Trace.{traceRun}
 use Rattle.visible.specs.Changes.{before, changedAt, pixelsChanged, Entry, entryOf, entryAt, entriesBefore}
 use Rattle.visible.specs.Sight.{Sight, sightOf, watched, Listing, listing, oneMore, putEntries, walkLeft, walkOf}
-use Rattle.visible.specs.declared.panel.Watched.{Watched}
-use Rattle.visible.proofs.FramesSame.{frames-told}
+use Rattle.visible.specs.declared.watch.Watched.{Watched}
+use Rattle.visible.proofs.FramesSame.{frames-by-counts}
 use Rattle.visible.proofs.HalfCounts.{half-few}
 use Rattle.visible.proofs.Listings.{none-put, same-room, more-listed}
 
@@ -62,16 +61,16 @@ started left right ram trace buffer whole size =
     }
 
 -- at most one entry more
-more-few : (e : Entry) (l : Listing) → oneMore e l .count ≤ l .count + 1
+more-few : (e : Entry) (l : Listing) → oneMore e l .answer ≤ l .answer + 1
 unfolding oneMore
-more-few e l = when (λ (k : Listing). k .count ≤ l .count + 1) (eqb (e .left + e .right) 0) (λ _. omega arith) (λ _. omega arith)
+more-few e l = when (λ (k : Listing). k .answer ≤ l .answer + 1) (eqb (e .left + e .right) 0) (λ _. omega arith) (λ _. omega arith)
 
 -- the entry of a record, by the panels before it and after it
 here-entry : (p : Panel) (rs : List Record) (k : ℕ) (q next : Panel) → before p rs k ≡ q → before p rs (suc k) ≡ next
     → let e = entryOf k (pixelsChanged q next 0) (pixelsChanged q next 1) in
     if (changedAt p rs k) (entryAt p rs k ∷ []) [] ≡ if (eqb (e .left + e .right) 0) [] (e ∷ [])
 here-entry p rs k q next is-q is-next =
-    rw (is-q, is-next) (rw (frames-told q next) (turned (eqb (pixelsChanged q next 0 + pixelsChanged q next 1) 0) _))
+    rw (is-q, is-next) (rw (frames-by-counts q next) (turned (eqb (pixelsChanged q next 0 + pixelsChanged q next 1) 0) _))
   where
     turned : (t : Bool) (e : Entry) → if (not t) (e ∷ []) [] ≡ if t [] (e ∷ [])
     turned true e = refl
@@ -89,14 +88,14 @@ module _ {p : Panel} {trace buffer : List ℕ} {left right : Chip} {ram entries 
   all = records-length (length trace / 4) trace
 
   pub same-size : length entries ≡ length buffer
-  same-size = ap (λ (l : Listing). length (l .buffer)) (upto .so-listed) ∙ same-room (entriesBefore p records at) buffer
+  same-size = ap (λ (l : Listing). length (l .lent)) (upto .so-listed) ∙ same-room (entriesBefore p records at) buffer
 
   -- the walk ends here
   ends : (n : ℕ) → traceRun p trace ≡ ranTo n (upto .replies) panel
       → walkLeft (record { number = n; place = at; entries = listed }) ram entries ≡ walkOf p trace buffer
   ends n e =
       rw (e, upto .replied)
-      (ap (λ (l : Listing). walkLeft (record { number = n; place = at; entries = l .count }) ram (l .buffer)) (upto .so-listed))
+      (ap (λ (l : Listing). walkLeft (record { number = n; place = at; entries = l .answer }) ram (l .lent)) (upto .so-listed))
 
   pub finished : length trace / 4 ≤ at → walkLeft (record { number = 0; place = at; entries = listed }) ram entries ≡ walkOf p trace buffer
   finished h = ends 0 (rw (take-all at records (omega (arith, all))) at (upto .run))
@@ -170,5 +169,5 @@ module _ {p : Panel} {trace buffer : List ℕ} {left right : Chip} {ram entries 
             so-listed =
                 put ∙ ap (oneMore entry) (upto .so-listed) ∙ more-listed (entriesBefore p records at) buffer entry
                 ∙ ap (λ (l : List Entry). listedAs l buffer) (sym grown);
-            few = omega (arith, ap (λ (l : Listing). l .count) put, more-few entry (listing listed entries), upto .few);
+            few = omega (arith, ap (λ (l : Listing). l .answer) put, more-few entry (listing listed entries), upto .few);
           }

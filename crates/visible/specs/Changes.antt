@@ -1,6 +1,6 @@
 -- The records of a trace that a reader can see: those after which the frame differs from before them (request C-14: when the glass changed).
-use Prim.Native.Nat.{ℕ, suc, _*_, _/_, _%_}
-use mathlib.Core.Bool.{Bool, not, _||_}
+use Prim.Native.Nat.{ℕ, suc, _*_}
+use mathlib.Core.Bool.{Bool, false, not}
 use mathlib.Core.List.{List, [], _∷_, _++_, flatMap}
 use lib.Dec.{ltb, eqb}
 use lib.ListN.{length, take, drop}
@@ -8,14 +8,15 @@ use Rattle.basics.specs.Bytes.{pairBytes, wordBytes, sameBytes}
 use Rattle.basics.specs.Choice.{if}
 use Rattle.basics.specs.Counts.{sumBelow, countBelow}
 use Rattle.basics.specs.Lists.{joined}
-use Rattle.sed1520.specs.Chip.{inRange}
-use Rattle.sed1520.specs.Panel.{Panel, chipAt, ramAt, after}
+use Rattle.basics.specs.Table.{Cause, cause, unlessRefused}
+use Rattle.basics.specs.Verdict.{verdict, Result, result}
+use Rattle.basics.specs.declared.verdict.Verdict.{Verdict}
+use Rattle.sed1520.specs.Chip.{outOfRange}
 use Rattle.sed1520.specs.Records.{wholeRecords}
-use Rattle.sed1520.specs.Verdict.{verdict, Filled, filled}
 use Rattle.sed1520.specs.declared.bus.Record.{Record}
 use Rattle.sed1520.specs.declared.registers.Chip.{Chip}
-use Rattle.sed1520.specs.declared.verdict.Verdict.{Verdict}
-use Rattle.trace.specs.Replay.{traceRun}
+use Rattle.panel.specs.Panel.{Panel, chipAt, ramAt, after}
+use Rattle.panel.specs.Trace.{traceRun, traceSizesWrong, traceTable}
 use Rattle.frame.specs.Frame.{segments, pixel, frameOf}
 
 -- the panel before record k: that after the k records before it, or after those before the first that is refused
@@ -30,7 +31,7 @@ changedAt p rs k = not (sameBytes (frameOf (before p rs k)) (frameOf (before p r
 abbrev pub segmentChanged : Chip → List ℕ → Chip → List ℕ → ℕ → ℕ
 segmentChanged c ram d other n = countBelow (λ row. not (eqb (pixel c ram n row) (pixel d other n row))) 32
 
--- how many pixels of a half differ so
+-- how many pixels of a half differ between one chip over its RAM and another over its own
 unfoldable pub halfChanged : Chip → List ℕ → Chip → List ℕ → ℕ
 halfChanged c ram d other = sumBelow (segmentChanged c ram d other) segments
 
@@ -48,7 +49,7 @@ pub record Entry : Type 0 where
 abbrev pub entryOf : ℕ → ℕ → ℕ → Entry
 entryOf index left right = record { index = index; left = left; right = right }
 
--- that of record k, listed or not
+-- the entry of record k, listed or not
 abbrev pub entryAt : Panel → List Record → ℕ → Entry
 entryAt p rs k =
     let q = before p rs k in let next = before p rs (suc k) in
@@ -58,7 +59,7 @@ entryAt p rs k =
 abbrev pub entriesBefore : Panel → List Record → ℕ → List Entry
 entriesBefore p rs n = joined (λ k. if (changedAt p rs k) (entryAt p rs k ∷ []) []) 0 n
 
--- those of all records
+-- the entries of all records
 abbrev pub entriesOf : Panel → List Record → List Entry
 entriesOf p rs = entriesBefore p rs (length rs)
 
@@ -66,27 +67,24 @@ entriesOf p rs = entriesBefore p rs (length rs)
 abbrev pub entryBytes : Entry → List ℕ
 entryBytes e = wordBytes (e .index) ++ (pairBytes (e .left) ++ pairBytes (e .right))
 
--- entries one after the other
+-- the bytes of entries one after the other
 abbrev pub entriesBytes : List Entry → List ℕ
 entriesBytes entries = flatMap entryBytes entries
 
--- number 1: a trace over 65,536 bytes, an image that is not 640
-unfoldable pub changesSizesWrong : ℕ → ℕ → Bool
-changesSizesWrong trace ram = ltb 65536 trace || not (eqb ram 640)
+-- the numbers of the list of changes, by the room for entries: 1 to 3 as every call that runs a trace has them; then the number of a record that is
+-- refused, with the records before it as place; then 15 where the entries need more than the room, with how many they are as place
+abbrev pub changesTable : Panel → List ℕ → ℕ → List Cause
+changesTable p trace room =
+    let run = traceRun p trace in let entries = entriesOf p (wholeRecords trace) in
+    traceTable (traceSizesWrong (length trace) (length (p .ram)) false) (outOfRange (p .left)) (outOfRange (p .right)) (length trace)
+    (cause (run .number) (length (run .answers)) (not (eqb (run .number) 0))
+    ∷ cause 15 (length entries) (ltb room (8 * length entries))
+    ∷ [])
 
--- how the records ended: refused, with that number and place; then 15 where the entries need more than the room, with how many they are as place;
--- else 0, with how many they are as place, and their bytes at the front of the buffer, the rest as it was; a refusal leaves the buffer as it came
-abbrev pub listGiven : ℕ → ℕ → List Entry → List ℕ → Filled Verdict
-listGiven number place entries buffer =
-    if (not (eqb number 0)) (filled (verdict number place) buffer)
-    (if (ltb (length buffer) (8 * length entries)) (filled (verdict 15 (length entries)) buffer)
-    (filled (verdict 0 (length entries)) (entriesBytes entries ++ drop (8 * length entries) buffer)))
-
--- numbers 1, 2 (left before right) and 3, then the records
-unfoldable pub changesOf : Panel → List ℕ → List ℕ → Filled Verdict
+-- the list of changes: its numbers, which leave the buffer as it came; else 0, with how many entries there are as place, and their bytes at the
+-- front of the buffer, the rest as it was
+unfoldable pub changesOf : Panel → List ℕ → List ℕ → Result Verdict (List ℕ)
 changesOf p trace buffer =
-    if (changesSizesWrong (length trace) (length (p .ram))) (filled (verdict 1 0) buffer)
-    (if (not (inRange (p .left))) (filled (verdict 2 0) buffer)
-    (if (not (inRange (p .right))) (filled (verdict 2 1) buffer)
-    (if (not (eqb (length trace % 4) 0)) (filled (verdict 3 (length trace / 4)) buffer)
-    (let run = traceRun p trace in listGiven (run .number) (length (run .answers)) (entriesOf p (wholeRecords trace)) buffer))))
+    let entries = entriesOf p (wholeRecords trace) in
+    unlessRefused (changesTable p trace (length buffer)) (λ n at. result (verdict n at) buffer)
+    (result (verdict 0 (length entries)) (entriesBytes entries ++ drop (8 * length entries) buffer))

@@ -1,16 +1,16 @@
 -- What is proved beside the call's contract: of the entries, of the records that nobody can see, and of what is refused.
-use Prim.Native.Nat.{ℕ, suc, _+_, _*_, _/_, _<_, _≤_}
+use Prim.Native.Nat.{ℕ, suc, _+_, _<_}
 use mathlib.Core.Path.{_≡_}
-use mathlib.Core.List.{List, _++_}
+use mathlib.Core.List.{List}
 use mathlib.Core.Logic.{_⊎_}
-use lib.ListN.{length, getD, drop}
-use Rattle.sed1520.specs.Panel.{Panel, outcomeOf, stepped}
+use lib.ListN.{length, getD}
+use Rattle.panel.specs.Panel.{Panel, outcomeOf, stepped}
 use Rattle.sed1520.specs.Records.{wholeRecords}
-use Rattle.sed1520.specs.Verdict.{verdict, filled}
+use Rattle.basics.specs.Table.{ExactlyWhen}
+use Rattle.basics.specs.Verdict.{verdict}
 use Rattle.sed1520.specs.declared.bus.Record.{Record}
-use Rattle.trace.specs.Replay.{replayOf}
 use Rattle.frame.specs.Frame.{frameOf}
-use Rattle.visible.specs.Changes.{before, Entry, entryOf, entryAt, entriesOf, entriesBytes, changesOf}
+use Rattle.visible.specs.Changes.{before, Entry, entryOf, entryAt, entriesOf, changesTable, changesOf}
 
 -- entry i of the list
 abbrev pub entryNo : Panel → List Record → ℕ → Entry
@@ -55,21 +55,13 @@ pub record LeavesFrame (p : Panel) (r : Record) : Type 0 where
 abbrev pub ReadsAndRefusalsUnseen : Type 0
 ReadsAndRefusalsUnseen = (p : Panel) → length (p .ram) ≡ 640 → (r : Record) → LeavesFrame p r
 
--- the call refuses what a replay refuses that has room for its answers, with its number and place; then number 15 where the entries need more
--- than the room, with their full number as place; else it gives them all
-pub record AsReplay (p : Panel) (trace answers buffer : List ℕ) : Type 0 where
-  pub refused : (replayOf p trace answers .number ≡ 0 → ⊥)
-      → changesOf p trace buffer ≡ filled (verdict (replayOf p trace answers .number) (replayOf p trace answers .place)) buffer
-  pub short : replayOf p trace answers .number ≡ 0 → let entries = entriesOf p (wholeRecords trace) in
-      length buffer < 8 * length entries → changesOf p trace buffer ≡ filled (verdict 15 (length entries)) buffer
-  pub done : replayOf p trace answers .number ≡ 0 → let entries = entriesOf p (wholeRecords trace) in 8 * length entries ≤ length buffer
-      → changesOf p trace buffer ≡ filled (verdict 0 (length entries)) (entriesBytes entries ++ drop (8 * length entries) buffer)
-
--- whatever is lent
-abbrev pub EveryCallAsReplay : Type 0
-EveryCallAsReplay = (p : Panel) (trace answers buffer : List ℕ) → 2 * (length trace / 4) ≤ length answers → AsReplay p trace answers buffer
+-- the call gives each number exactly when its line says so, else number 0 with how many entries there are as place
+abbrev pub ChangesNumbers : Type 0
+ChangesNumbers =
+    (p : Panel) (trace buffer : List ℕ)
+    → ExactlyWhen (changesTable p trace (length buffer)) (verdict 0 (length (entriesOf p (wholeRecords trace)))) (changesOf p trace buffer .answer)
 
 -- any refusal changes nothing
 abbrev pub EveryRefusalKeeps : Type 0
 EveryRefusalKeeps =
-    (p : Panel) (trace buffer : List ℕ) → (changesOf p trace buffer .verdict .number ≡ 0 → ⊥) → changesOf p trace buffer .buffer ≡ buffer
+    (p : Panel) (trace buffer : List ℕ) → (changesOf p trace buffer .answer .number ≡ 0 → ⊥) → changesOf p trace buffer .lent ≡ buffer

@@ -1,7 +1,6 @@
 // One record on one chip: how many pixels of its half it changes. Only what the record can change is drawn: nothing for a
 // read, one segment for a data write, the half for a command that changes a register that a frame looks at.
 ghost use mathlib.Core.Path.{_≡_};
-ghost use lib.ListN.{length};
 ghost use Rattle.frame.specs.Frame.{columnOf};
 ghost use Rattle.sed1520.specs.Laws.{Fit};
 ghost use Rattle.visible.specs.Changes.{halfChanged};
@@ -27,7 +26,8 @@ fn differing(one: u32, other: u32) -> u32
 
 // How many pixels of a half differ between two chips over the same RAM.
 fn half_differing(before: Chip, after: Chip, ram: &[u8]) -> u32
-    requires { ⌜ length (now ram) ≡ 320 ⌝ }
+    requires { ⌜ Fit before (now ram) ⌝ }
+    requires { ⌜ Fit after (now ram) ⌝ }
     ensures { λ r. ⌜ r ≡ halfChanged before (now (ram .entry)) after (now (ram .entry)) ⌝ }
 {
     let mut pixels = 0;
@@ -35,7 +35,7 @@ fn half_differing(before: Chip, after: Chip, ram: &[u8]) -> u32
     while n < Chip::SEGMENTS {
         let one = segment_pixels(before, ram, n);
         let other = segment_pixels(after, ram, n);
-        pixels = pixels + differing(one, other);
+        pixels = pixels + differing(one.pixels, other.pixels);
         n = n + 1;
     }
     pixels
@@ -51,8 +51,8 @@ fn same_registers(one: Chip, other: Chip) -> bool
                 & ((one.reverse == other.reverse) & (one.start_line == other.start_line))))
 }
 
-// The segment that shows the column at which a chip stands; past the last segment the column is not shown. Past a page's
-// last column nothing is written, and any number will do.
+// The segment that shows the column at which a chip stands; past the last segment the column is not shown, and a segment
+// there is refused with no pixels. Past a page's last column nothing is written, and any number will do.
 fn segment_at(chip: Chip) -> usize
     ensures { λ r. ⌜ r ≡ columnOf chip (chip .column) ⌝ }
 {
@@ -82,7 +82,7 @@ fn watch_write(bus: Record, chip: Chip, ram: &mut [u8]) -> Seen
     Seen {
         number: answer.number,
         chip: next,
-        pixels: differing(before, after),
+        pixels: differing(before.pixels, after.pixels),
     }
 }
 

@@ -2,16 +2,15 @@
 ghost use Prim.Native.Nat.{_<_, _≤_};
 ghost use mathlib.Core.Path.{_≡_};
 ghost use lib.ListN.{length};
-ghost use Rattle.sed1520.specs.Laws.{Whole};
-ghost use Rattle.sed1520.specs.Panel.{panelOf};
-ghost use Rattle.sed1520.specs.Verdict.{filled};
+ghost use Rattle.basics.specs.Verdict.{result};
+ghost use Rattle.panel.specs.Panel.{panelOf, Whole};
 ghost use Rattle.visible.specs.Changes.{entryOf, entryBytes};
 ghost use Rattle.visible.specs.Sight.{listing, oneMore, walkLeft, walkOf, walkOver};
-use crate::panel::watch;
-use sed1520::bus::IMAGE_BYTES;
+use crate::watch::watch;
+use panel::chips::IMAGE_BYTES;
+use sed1520::bus::RECORD_BYTES;
 use sed1520::bus::Record;
 use sed1520::registers::Chip;
-use trace::RECORD_BYTES;
 
 // The bytes of an entry.
 pub(crate) const ENTRY_BYTES: usize = 8;
@@ -112,7 +111,7 @@ pub(crate) fn walk_over(
 ) -> Walked
     requires { ⌜ Whole (panelOf left right (now ram)) ⌝ }
     requires { ⌜ length (now trace) ≤ 65536 ⌝ }
-    ensures { λ r. ⌜ filled r (now (entries .exit))
+    ensures { λ r. ⌜ result r (now (entries .exit))
         ≡ walkOver (panelOf left right (now (ram .entry))) (now (trace .entry)) (now (entries .entry)) ⌝ }
 {
     let mut image = [0u8; IMAGE_BYTES];

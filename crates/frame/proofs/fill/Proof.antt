@@ -7,8 +7,8 @@ use borrow.Author.Needs.{needs}
 use Rattle.basics.specs.Lists.{joined}
 use Rattle.basics.proofs.Filling.{Begun, begun-none, begun-length, begun-all}
 use Rattle.basics.proofs.Parts.{rest}
-use Rattle.sed1520.specs.Panel.{panelOf}
-use Rattle.sed1520.proofs.WholePanel.{whole-fit}
+use Rattle.panel.specs.Panel.{panelOf}
+use Rattle.panel.proofs.WholePanel.{whole-fit}
 use Rattle.frame.specs.Frame.{columns, frameRow, frameOf}
 use Rattle.frame.proofs.Places.{row-begun}
 use Rattle.frame.proofs.fill.Statement.{statement}

@@ -2,9 +2,8 @@
 use mathlib.Core.Path.{_≡_, sym, _∙_}
 use mathlib.Core.Bool.{false}
 use lib.ListN.{length}
-use borrow.Author.Tests.{eq-eqb, ne-eqb}
 use Rattle.repaint.specs.Repaint.{repaintSizesWrong, repaintOf}
-use Rattle.repaint.proofs.RepaintCases.{sizes-right}
+use Rattle.repaint.proofs.RepaintCases.{sizes-right, chips-ready, chips-refused}
 use borrow.Author.Needs.{needs}
 use Rattle.repaint.proofs.repaint.Statement.{statement}
 use Rattle.repaint.proofs.repaint.Tie as tie
@@ -24,20 +23,16 @@ put-records-requires : tie.Need-put-records-requires
 put-records-requires c κs = sizes-right _ _ (sizes (c .before .before .before .before))
 
 returns-2 : tie.Need-returns-2
-unfolding repaintOf
 returns-2 c =
     let put = c .before .before in
     let ready = put .before .before in
-    let told = ready .before .before in
-    let zero = rw (told .chips-verdict .ensures) at (ready .if2 .taken) in
-    rw (put .put-records .ensures, told .chips-verdict .ensures, sizes (told .before), eq-eqb _ 0 zero)
+    let test = ready .before .before in
+    chips-ready _ _ _ _ (sizes (test .before)) _ (test .chips-verdict .ensures) (ready .if2 .taken) (put .put-records .ensures)
 
 returns-3 : tie.Need-returns-3
-unfolding repaintOf
 returns-3 c =
-    let told = c .before .before in
-    let other = rw (told .chips-verdict .ensures) at (c .if2 .left) in
-    rw (told .chips-verdict .ensures, sizes (told .before), ne-eqb _ 0 other)
+    let test = c .before .before in
+    chips-refused _ _ _ _ (sizes (test .before)) _ (test .chips-verdict .ensures) (c .if2 .left)
 
 pub repaint-spec : {M : Type 1} → statement M
 repaint-spec =

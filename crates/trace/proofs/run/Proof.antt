@@ -4,7 +4,7 @@ use native.Mathlib.Omega.{arith}
 use mathlib.Core.Bool.{_&&_, not}
 use lib.Dec.{eqb}
 use lib.ListN.{getD, length-set}
-use Rattle.sed1520.specs.ChipRecord.{panelIn}
+use Rattle.panel.specs.Chips.{panelIn}
 use Rattle.trace.specs.Replay.{isCompared}
 use Rattle.trace.proofs.InPlace.{over-records-at}
 use Rattle.trace.proofs.Counts.{at-most-one}
@@ -21,10 +21,10 @@ abbrev μ-loop : tie.MeasureT-loop
 μ-loop chips₀ ram₀ trace answers₀ compared₀ differing₀ at₀ count chips ram answers compared differing at = count - at
 
 -- the places of a turn: the step, from past it; the loop's head. And the start
-abbrev stepped : tie.After-struct-known Inv-loop μ-loop → tie.After-step-of-tested-records Inv-loop μ-loop
+abbrev stepped : tie.After-struct-known Inv-loop μ-loop → tie.After-step-of-tested-chips Inv-loop μ-loop
 stepped c = c .before .before .before .before .before
 
-abbrev head : tie.After-step-of-tested-records Inv-loop μ-loop → tie.At-loop Inv-loop μ-loop
+abbrev head : tie.After-step-of-tested-chips Inv-loop μ-loop → tie.At-loop Inv-loop μ-loop
 head c = c .before .before .before .before .before .before .before .before
 
 abbrev start : tie.At-loop Inv-loop μ-loop → tie.Start Inv-loop μ-loop
@@ -39,7 +39,7 @@ returns : tie.Need-returns Inv-loop μ-loop
 returns c =
     let step = stepped (c .before) in
     let state = head step .loop .inv in
-    let given = step .step-of-tested-records .ensures in
+    let given = step .step-of-tested-chips .ensures in
     over-records-at
     (start (head step) .pre .0)
     (fits-again state (omega arith) given)
@@ -49,19 +49,19 @@ slice-write-answers-2 : tie.Need-slice-write-answers-2 Inv-loop μ-loop
 slice-write-answers-2 c = simp length-set (omega arith)
 
 add-compared : tie.Need-add-compared Inv-loop μ-loop
-add-compared c = omega (arith, at-most-one (isCompared (stepped (c .before .before) .step-of-tested-records .result .kind)))
+add-compared c = omega (arith, at-most-one (isCompared (stepped (c .before .before) .step-of-tested-chips .result .kind)))
 
 add-differing : tie.Need-add-differing Inv-loop μ-loop
 add-differing c =
     let step = stepped (c .before .before .before) in
-    let answer = step .step-of-tested-records .result in
+    let answer = step .step-of-tested-chips .result in
     let recorded = getD (start (head step) .args .trace .now) (4 * head step .loop .at + 2) 0 in
     omega (arith, at-most-one (isCompared (answer .kind) && not (eqb (answer .byte) recorded)))
 
 loop-again : tie.Need-loop-again Inv-loop μ-loop
 loop-again c =
     let step = stepped (c .before .before .before) in
-    accepted-here (head step .loop .inv) (omega arith) (step .step-of-tested-records .ensures)
+    accepted-here (head step .loop .inv) (omega arith) (step .step-of-tested-chips .ensures)
     (omega arith) (c .before .compares .ensures) (c .differs .ensures)
 
 returns-2 : tie.Need-returns-2 Inv-loop μ-loop

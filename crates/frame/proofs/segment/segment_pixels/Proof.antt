@@ -1,64 +1,41 @@
--- `frame::segment::segment_pixels` meets its contract, switch by switch.
+-- `frame::segment::segment_pixels` meets its contract: the lines of its table one after the other, then the rows.
 use native.Mathlib.Omega.{arith}
-use mathlib.Core.Path.{sym, _∙_}
-use Rattle.frame.proofs.Segments.{column-near}
-use Rattle.frame.proofs.Lines.{no-ram, no-segment, segment-dark, segment-lit, segment-lines, segment-upper}
+use mathlib.Core.Path.{_≡_, sym, _∙_}
+use mathlib.Core.Bool.{false, not, _||_, or-true}
+use lib.Dec.{leb, eqb}
+use lib.ListN.{length}
 use borrow.Author.Needs.{needs}
+use borrow.Author.Tests.{le-leb, lt-leb, eq-eqb, ne-eqb, not-true, not-false}
+use Rattle.frame.specs.Frame.{segments, segmentPixels}
 use Rattle.frame.proofs.segment.segment_pixels.Statement.{statement}
 use Rattle.frame.proofs.segment.segment_pixels.Tie as tie
 
+-- what the test of the sizes showed, where it passed
+sizes : (c : tie.Else2) → let at = c .before .before .before .args in (not (eqb (length (at .ram .now)) 320) || leb segments (at .n)) ≡ false
+sizes c =
+    let at = c .before .before .before .args in
+    rw (eq-eqb (length (at .ram .now)) 320 (omega arith), lt-leb segments (at .n) (omega arith))
+
 returns : tie.Need-returns
-returns c = sym (no-ram _ _ _ (c .if1 .taken))
+unfolding segmentPixels
+returns c = rw (ne-eqb (length (c .before .before .args .ram .now)) 320 (c .if1 .taken))
 
 returns-2 : tie.Need-returns-2
-returns-2 c = sym (no-segment _ _ _ (c .if2 .taken))
-
--- the start, from past the tests of the sizes
-abbrev start : tie.Else2 → tie.Start
-start c = c .before .before .before
+unfolding segmentPixels
+returns-2 c =
+    let at = c .before .before .before .args in
+    rw (le-leb segments (at .n) (c .if2 .taken), or-true (not (eqb (length (at .ram .now)) 320)))
 
 returns-3 : tie.Need-returns-3
-returns-3 c =
-    let at = start (c .before .before) .args in
-    sym (segment-dark (at .chip) (at .ram .now) (at .n) (omega arith) (omega arith) (c .if3 .taken))
+unfolding segmentPixels
+returns-3 c = rw (sizes (c .before .before), sym (c .before .in-range .ensures) ∙ not-true _ (c .if3 .taken))
 
 returns-4 : tie.Need-returns-4
+unfolding segmentPixels
 returns-4 c =
-    let at = start (c .before .before .before) .args in
-    sym (segment-lit (at .chip) (at .ram .now) (at .n) (omega arith) (omega arith) (c .before .if3 .left) (c .if4 .taken))
-
-column-lines-requires : tie.Need-column-lines-requires
-column-lines-requires c κs =
-    let at = start (c .before .before .before .before) .args in
-    (omega arith, rw (c .column-of .ensures) (column-near (at .chip) (at .n) (omega arith)))
-
-returns-5 : tie.Need-returns-5
-returns-5 c =
-    let driven = c .before .before .before .before in
-    let at = start (driven .before .before .before) .args in
-    c .before .turned .ensures
-    ∙ rw (c .before .before .column-lines .ensures, c .before .before .before .column-of .ensures)
-    (sym (segment-lines (at .chip) (at .ram .now) (at .n) (omega arith) (omega arith)
-    (driven .before .if3 .left) (driven .if4 .left) (c .if5 .taken)))
-
-returns-6 : tie.Need-returns-6
-returns-6 c =
-    let driven = c .before .before .before .before in
-    let at = start (driven .before .before .before) .args in
-    rw (c .before .turned .ensures, c .before .before .column-lines .ensures, c .before .before .before .column-of .ensures)
-    (sym (segment-upper (at .chip) (at .ram .now) (at .n) (omega arith) (omega arith)
-    (driven .before .if3 .left) (driven .if4 .left) (c .if5 .left)))
+    let test = c .before .before in
+    rw (c .segment-rows .ensures, sizes (test .before), sym (test .in-range .ensures) ∙ not-false _ (c .before .if3 .left))
 
 pub segment-pixels-spec : {M : Type 1} → statement M
 segment-pixels-spec =
-    tie.close
-    (tie.spec
-    returns
-    returns-2
-    returns-3
-    returns-4
-    (λ c κs. search needs)
-    column-lines-requires
-    (λ c κs. search needs)
-    returns-5
-    returns-6)
+    tie.close (tie.spec returns returns-2 (λ c κs. search needs) returns-3 (λ c κs. (omega arith, omega arith)) returns-4)

@@ -1,5 +1,6 @@
 -- `sed1520::record_step::write_command` meets its contract: the whole record is stored, or nothing where the command is refused.
 use mathlib.Core.Path.{_≡_, ap, _∙_}
+use lib.ListN.{length}
 use borrow.Author.Tests.{eq-eqb, ne-eqb}
 use Rattle.sed1520.specs.ChipRecord.{registersIn}
 use Rattle.sed1520.specs.Cycle.{commandWrite}
@@ -24,8 +25,9 @@ returns-2 c =
     let stored = c .before .before .before in
     let passed = stored .before .before .before in
     let done = passed .before .before in
+    let start = done .before .before .before .before in
     let told = answered done in
-    (c .bare2 .ensures ∙ ap bare told, rw (← told, eq-eqb (done .command .result .number) 0 (passed .if1 .left)) (stored .chip-out .ensures))
+    (c .bare2 .ensures ∙ ap bare told, rw (← told, eq-eqb (done .command .result .number) 0 (passed .if1 .left)) (stored .chip-out .ensures ∙ rw (eq-eqb (length (start .args .bytes .now)) 12 (start .pre))))
 
 pub write-command-spec : {M : Type 1} → statement M
 write-command-spec =

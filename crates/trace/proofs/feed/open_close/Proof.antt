@@ -1,8 +1,9 @@
 -- `trace::feed::open_close` meets its contract: number 2, then 3 or 0.
 use native.Mathlib.Omega.{arith}
-use mathlib.Core.Path.{_∙_}
+use mathlib.Core.Path.{sym, _∙_}
 use borrow.Author.Needs.{needs}
-use Rattle.trace.proofs.FeedCases.{close-refused, close-whole, close-cut}
+use borrow.Author.Tests.{eq-eqb, ne-eqb}
+use Rattle.trace.proofs.FeedCases.{state-line, state-passed, close-refused, close-passed}
 use Rattle.trace.proofs.feed.open_close.Statement.{statement}
 use Rattle.trace.proofs.feed.open_close.Tie as tie
 
@@ -10,18 +11,25 @@ use Rattle.trace.proofs.feed.open_close.Tie as tie
 abbrev tested : tie.After-struct-known → tie.After-state-verdict
 tested c = c .before
 
+abbrev start : tie.Else1 → tie.Start
+start c = tested (c .before) .before .before .before .before
+
 returns : tie.Need-returns
-returns c = c .told .ensures ∙ close-refused _ _ (tested (c .before .before) .state-verdict .ensures) (c .before .if1 .taken)
+returns c =
+    let line = state-line _ _ (tested (c .before .before) .state-verdict .ensures) (c .before .if1 .taken) in
+    c .told .ensures ∙ sym (close-refused _ _ _ line)
 
 returns-2 : tie.Need-returns-2
 returns-2 c =
     let right = c .before .before .before in
-    c .stopped .ensures ∙ close-whole _ _ (tested (right .before) .state-verdict .ensures) (omega arith) (omega arith)
+    let none = state-passed _ _ (tested (right .before) .state-verdict .ensures) (omega arith) in
+    c .stopped .ensures ∙ sym (close-passed _ none ∙ rw (eq-eqb (start right .args .feed .progress .kept) 0 (omega arith)))
 
 returns-3 : tie.Need-returns-3
 returns-3 c =
     let right = c .before .before .before in
-    c .stopped2 .ensures ∙ close-cut _ _ (tested (right .before) .state-verdict .ensures) (omega arith) (c .before .if2 .left)
+    let none = state-passed _ _ (tested (right .before) .state-verdict .ensures) (omega arith) in
+    c .stopped2 .ensures ∙ sym (close-passed _ none ∙ rw (ne-eqb (start right .args .feed .progress .kept) 0 (c .before .if2 .left)))
 
 pub open-close-spec : {M : Type 1} → statement M
 open-close-spec =

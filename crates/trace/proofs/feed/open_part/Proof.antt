@@ -3,15 +3,16 @@ use native.Mathlib.Omega.{arith}
 use mathlib.Core.Path.{_≡_, ap}
 use lib.ListN.{length}
 use borrow.Author.Needs.{needs}
-use Rattle.trace.specs.Feed.{partVerdict}
+use Rattle.basics.specs.Table.{NoneHolds}
+use Rattle.trace.specs.Feed.{partTable, partVerdict}
 use Rattle.trace.specs.FeedInPlace.{feedIn}
 use Rattle.trace.specs.Replay.{InPlace}
 use Rattle.trace.specs.declared.Ran.{Ran}
 use Rattle.trace.proofs.Bounds.{ran-few}
-use Rattle.trace.proofs.FeedCases.{PartRight, part-right}
+use Rattle.trace.proofs.FeedCases.{PartRight, part-right, part-line, part-passed}
 use Rattle.trace.proofs.InPlace.{records-fit}
 use Rattle.trace.proofs.KeptOver.{joined-length}
-use Rattle.trace.proofs.PartCases.{part-refused, part-ran}
+use Rattle.trace.proofs.PartCases.{not-taken, part-ran}
 use Rattle.trace.proofs.feed.open_part.Statement.{statement}
 use Rattle.trace.proofs.feed.open_part.Tie as tie
 
@@ -28,17 +29,19 @@ told c = rw (c .before .before .before .chips-in .ensures) at (c .part-verdict .
 abbrev test : tie.After-run-part → tie.Else1
 test c = c .before .before .before .before
 
+none : (c : tie.Else1) → let at = start (c .before .before) .args in
+    NoneHolds (partTable (feedIn (at .chips .now) (at .progress)) (length (at .ram .now)) (length (at .part .now)) (length (at .answers .now)))
+none c = part-passed _ _ _ _ _ (told (c .before .before)) (omega arith)
+
 passed : (c : tie.Else1) → let at = start (c .before .before) .args in
     PartRight (feedIn (at .chips .now) (at .progress)) (length (at .ram .now)) (length (at .part .now)) (length (at .answers .now))
-passed c = part-right _ _ _ _ (rw (told (c .before .before)) at (zero c))
-  where
-    zero : (c : tie.Else1) → c .before .before .part-verdict .result .number ≡ 0
-    zero c = omega arith
+passed c = part-right _ _ _ _ (none c)
 
 returns : tie.Need-returns
 returns c =
     let verdict = c .before .before .before in
-    rw (c .told-in-place .ensures) (part-refused _ _ _ _ _ (start verdict .pre) _ (told verdict) (c .before .if1 .taken))
+    let line = part-line _ _ _ _ _ (told verdict) (c .before .if1 .taken) in
+    rw (c .told-in-place .ensures) (not-taken _ _ _ _ _ (start verdict .pre) _ _ line)
 
 run-part-requires : tie.Need-run-part-requires
 run-part-requires c κs =
@@ -74,7 +77,7 @@ returns-2 c =
     let ran = c .before .before .before .before .before .before .before .before .before in
     let verdict = test ran .before .before in
     rw (c .told-in-place2 .ensures)
-    (part-ran _ _ _ _ _ (start verdict .pre) _ (told verdict) (omega arith) _ (ran .run-part .ensures) _ (c .before .before .moved-on .ensures))
+    (part-ran _ _ _ _ _ (start verdict .pre) (none (test ran)) _ (ran .run-part .ensures) _ (c .before .before .moved-on .ensures))
 
 pub open-part-spec : {M : Type 1} → statement M
 open-part-spec =

@@ -6,7 +6,7 @@ use borrow.Author.Needs.{needs}
 use Rattle.trace.specs.Feed.{completedBy, tooMany}
 use Rattle.trace.specs.Replay.{sizesWrong}
 use Rattle.trace.proofs.FeedCases.{part-sizes, part-many, part-state}
-use Rattle.trace.proofs.ReplayCases.{sizes-right}
+use Rattle.trace.proofs.ReplayNumbers.{sizes-right}
 use Rattle.trace.proofs.feed.part_verdict.Statement.{statement}
 use Rattle.trace.proofs.feed.part_verdict.Tie as tie
 
@@ -26,7 +26,10 @@ returns c =
     c .new .ensures ∙ sym (part-sizes _ _ _ _ wrong)
 
 too-many-requires : tie.Need-too-many-requires
-too-many-requires c κs = let s = sizes-right _ _ _ _ (sizes c) in omega (arith, s .short, c .before .before .completed .ensures)
+too-many-requires c κs =
+    let at = c .before .before .before .before .args in
+    let s = sizes-right (at .part) (completedBy (at .feed .progress .kept) (at .part)) (at .ram) (at .answers) (sizes c) in
+    omega (arith, s .short, c .before .before .completed .ensures)
 
 returns-2 : tie.Need-returns-2
 returns-2 c =

@@ -6,7 +6,7 @@ use mathlib.Core.List.{List}
 use lib.ListN.{length-take, length-drop}
 use borrow.Author.Needs.{needs}
 use Rattle.basics.proofs.Parts.{rest}
-use Rattle.sed1520.specs.ChipRecord.{panelIn}
+use Rattle.panel.specs.Chips.{panelIn}
 use Rattle.trace.specs.Feed.{joinedTo}
 use Rattle.trace.specs.Replay.{endedBytes, overRecords}
 use Rattle.trace.proofs.InPlace.{kept}
@@ -39,7 +39,7 @@ returns-2 c =
     let few = joined-length (at .progress) (from .pre .1 .0) (at .part .now) in
     let bytes = joinedTo (at .progress) (at .part .now) in
     let none = nothing-run (panelIn (at .chips .now) (at .ram .now)) bytes (at .answers .now) (omega (arith, few)) in
-    rw (c .ran-nothing .ensures, none) (rw (kept (at .chips .now) (at .ram .now) (from .pre .0 .records)))
+    rw (c .ran-nothing .ensures, none) (rw (kept (at .chips .now) (from .pre .0 .records)))
 
 run-both-requires : tie.Need-run-both-requires
 run-both-requires c κs =

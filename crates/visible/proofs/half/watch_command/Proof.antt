@@ -2,7 +2,7 @@
 use native.Mathlib.Omega.{arith}
 use mathlib.Core.Path.{sym, _∙_}
 use borrow.Author.Needs.{needs}
-use Rattle.visible.proofs.HalfSights.{told-same, seen, left-whole, same-sight, command-sight}
+use Rattle.visible.proofs.HalfSights.{registers-alike, seen, still-fits, next-fits, same-sight, command-sight}
 use Rattle.visible.proofs.half.watch_command.Statement.{statement}
 use Rattle.visible.proofs.half.watch_command.Tie as tie
 
@@ -12,18 +12,21 @@ start c = c .before .before .before
 
 returns : tie.Need-returns
 returns c =
-    let told = c .before in
-    let ran = told .before .before .before .before in
+    let test = c .before in
+    let ran = test .before .before .before .before in
     let at = start ran .args in
     seen (at .bus) (at .chip) (at .ram .now) _ (ran .cycle .ensures) _
     (same-sight (at .bus) (at .chip) (at .ram .now) _ (ran .cycle .ensures) (λ e. omega (arith, start ran .pre .1))
-    (told-same _ _ (sym (told .same-registers .ensures) ∙ c .if1 .taken)))
+    (registers-alike _ _ (sym (test .same-registers .ensures) ∙ c .if1 .taken)))
 
 half-differing-requires : tie.Need-half-differing-requires
 half-differing-requires c κs =
     let ran = c .before .before .before .before .before .before in
     let at = start ran .args in
-    left-whole (at .bus) (at .chip) (at .ram .now) _ (ran .cycle .ensures) (start ran .pre .0 .bytes)
+    let fit = start ran .pre .0 in (
+      still-fits (at .bus) (at .chip) (at .ram .now) _ (ran .cycle .ensures) fit,
+      next-fits (at .bus) (at .chip) (at .ram .now) _ (ran .cycle .ensures) fit,
+    )
 
 returns-2 : tie.Need-returns-2
 returns-2 c =

@@ -14,7 +14,7 @@ returns c =
     let at = start .args in
     seen (at .bus) (at .chip) (at .ram .now) _ (ran .cycle .ensures) _
     (c .differing .ensures
-    ∙ write-sight (at .bus) (at .chip) (at .ram .now) _ (ran .cycle .ensures) (start .pre .0 .bytes) (λ e. omega (arith, start .pre .1))
+    ∙ write-sight (at .bus) (at .chip) (at .ram .now) _ (ran .cycle .ensures) (start .pre .0) (λ e. omega (arith, start .pre .1))
     (drawn .before .before .segment-at .ensures) (drawn .segment-pixels .ensures) (c .before .segment-pixels2 .ensures))
 
 pub watch-write-spec : {M : Type 1} → statement M

@@ -3,7 +3,7 @@ use Prim.Native.Nat.{_-_}
 use native.Mathlib.Omega.{arith}
 use mathlib.Core.Path.{sym, _∙_}
 use borrow.Author.Needs.{needs}
-use Rattle.sed1520.specs.Panel.{panelOf}
+use Rattle.panel.specs.Panel.{panelOf}
 use Rattle.visible.proofs.Walking.{Upto, started, same-size, finished, whole-then, left-few, right-few, refused-here, accepted-here}
 use Rattle.visible.proofs.walk.walk.Statement.{statement}
 use Rattle.visible.proofs.walk.walk.Tie as tie

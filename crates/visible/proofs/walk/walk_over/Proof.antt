@@ -3,9 +3,10 @@ use Prim.Native.Nat.{ℕ}
 use mathlib.Core.Path.{_≡_, sym, ap, _∙_}
 use lib.ListN.{replicate, length-replicate}
 use borrow.Author.Needs.{needs}
-use Rattle.sed1520.specs.Verdict.{filled}
+use Rattle.basics.specs.Verdict.{Result, result}
 use Rattle.basics.proofs.Bytes.{copied-whole}
-use Rattle.visible.specs.Sight.{Walk}
+use Rattle.visible.specs.Sight.{WalkLent}
+use Rattle.visible.specs.declared.walk.Walked.{Walked}
 use Rattle.visible.proofs.walk.walk_over.Statement.{statement}
 use Rattle.visible.proofs.walk.walk_over.Tie as tie
 
@@ -24,7 +25,7 @@ walk-requires c κs =
 returns : tie.Need-returns
 returns c =
     let ran = c .before .before .before in
-    ap (λ (w : Walk). filled (w .walked) (w .buffer)) (rw (copied (ran .before .before .before .before)) at (ran .walk .ensures))
+    ap (λ (w : Result Walked WalkLent). result (w .answer) (w .lent .entries)) (rw (copied (ran .before .before .before .before)) at (ran .walk .ensures))
 
 pub walk-over-spec : {M : Type 1} → statement M
 walk-over-spec =

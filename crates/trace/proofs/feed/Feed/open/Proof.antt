@@ -1,10 +1,10 @@
 -- `trace::feed::Feed::open` meets its contract: number 2, or an open feed.
 use native.Mathlib.Omega.{arith}
-use mathlib.Core.Path.{_≡_}
+use mathlib.Core.Path.{_≡_, sym}
 use borrow.Author.Needs.{needs}
 use Rattle.trace.specs.Feed.{begun, feedOf, stateVerdict}
 use Rattle.trace.specs.declared.progress.Ending.the-variants.{Open}
-use Rattle.trace.proofs.FeedCases.{state-place, open-refused, open-done}
+use Rattle.trace.proofs.FeedCases.{state-place, state-line, state-passed, open-refused, open-done}
 use Rattle.trace.proofs.feed.Feed.open.Statement.{statement}
 use Rattle.trace.proofs.feed.Feed.open.Tie as tie
 
@@ -22,12 +22,12 @@ cast-t10 c =
 returns : tie.Need-returns
 returns c =
     rw (c .told .ensures, c .before .begun2 .ensures)
-    (open-refused _ _ _ (tested (c .before .before .before .before .before)) (c .before .before .before .if1 .taken))
+    (sym (open-refused _ _ _ _ (state-line _ _ (tested (c .before .before .before .before .before)) (c .before .before .before .if1 .taken))))
 
 returns-2 : tie.Need-returns-2
 returns-2 c =
     rw (c .told2 .ensures, c .before .before .before .before .begun .ensures)
-    (open-done _ _ _ (tested (c .before .before .before)) (omega arith))
+    (sym (open-done _ _ (state-passed _ _ (tested (c .before .before .before)) (omega arith))))
 
 pub open-spec : {M : Type 1} → statement M
 open-spec =

@@ -1,0 +1,105 @@
+-- The law of a table: a number and a place are given exactly when a line has them, its cause holds and none before it does.
+use Prim.Native.Nat.{ℕ}
+use mathlib.Core.Path.{_≡_, refl, sym, ap, _∙_}
+use mathlib.Core.Bool.{Bool, true, false}
+use mathlib.Core.List.{List, [], _∷_}
+use mathlib.Core.Logic.{_⊎_, inl, inr, ⊎-elim}
+use Rattle.basics.specs.Choice.{if}
+use Rattle.basics.specs.Table.{Cause, unlessRefused, verdictBy, First, NoneHolds, ExactlyWhen}
+use Rattle.basics.specs.Verdict.{verdict}
+use Rattle.basics.specs.declared.verdict.Verdict.{Verdict}
+use Rattle.basics.proofs.Tests.{tested, when, when-both}
+
+module _ {A : Type 0} (refuse : ℕ → ℕ → A) (done : A) where
+  pub first-refuses : (table : List Cause) (n at : ℕ) → First table n at → unlessRefused table refuse done ≡ refuse n at
+  first-refuses [] n at first = absurd first
+  first-refuses (c ∷ cs) n at first =
+      ⊎-elim
+      (λ here. rw (here .0, here .1 .0, here .1 .1))
+      (λ later. rw (later .0) (first-refuses cs n at (later .1)))
+      first
+
+  pub none-refuses : (table : List Cause) → NoneHolds table → unlessRefused table refuse done ≡ done
+  none-refuses [] none = refl
+  none-refuses (c ∷ cs) none = rw (none .0) (none-refuses cs (none .1))
+
+  -- what holds of every refusal, and where none is, holds of the call
+  pub each-line : (P : A → Type 0) (table : List Cause) → ((n at : ℕ) → First table n at → P (refuse n at)) → (NoneHolds table → P done)
+      → P (unlessRefused table refuse done)
+  each-line P [] refused passed = passed tt
+  each-line P (c ∷ cs) refused passed =
+      when P (c .holds)
+      (λ holds. refused (c .number) (c .place) (inl (holds, (refl, refl))))
+      (λ fails. each-line P cs (λ n at first. refused n at (inr (fails, first))) (λ none. passed (fails, none)))
+
+-- some line refuses, or none does
+pub first-or-none : (table : List Cause) → ((n : ℕ) × ((at : ℕ) × First table n at)) ⊎ NoneHolds table
+first-or-none [] = inr tt
+first-or-none (c ∷ cs) =
+    ⊎-elim
+    (λ holds. inl (c .number, (c .place, inl (holds, (refl, refl)))))
+    (λ fails. ⊎-elim
+    (λ later. inl (later .0, (later .1 .0, inr (fails, later .1 .1))))
+    (λ none. inr (fails, none))
+    (first-or-none cs))
+    (tested (c .holds))
+
+-- a function of what a call comes to
+pub table-as : {A B : Type 0} (f : A → B) (table : List Cause) {refuse : ℕ → ℕ → A} {done : A} {refused : ℕ → ℕ → B} {did : B}
+    → ((n at : ℕ) → f (refuse n at) ≡ refused n at) → f done ≡ did → f (unlessRefused table refuse done) ≡ unlessRefused table refused did
+table-as f [] each last = last
+table-as f (c ∷ cs) each last =
+    when-both (λ x y. f x ≡ y) (c .holds) (c .holds) refl (λ _. each (c .number) (c .place)) (λ _. table-as f cs each last)
+
+pub exactly-when : (table : List Cause) (done : Verdict) → ExactlyWhen table done (verdictBy table done)
+exactly-when table done =
+    record {
+      where-first = first-refuses verdict done table;
+      only-there = λ n at. each-line verdict done (λ (v : Verdict). v ≡ verdict n at → First table n at ⊎ (NoneHolds table × (done ≡ verdict n at))) table
+          (λ m place first e. inl (same m place n at first e))
+          (λ none e. inr (none, e));
+      else-done = none-refuses verdict done table;
+    }
+  where
+    same : (m place n at : ℕ) → First table m place → verdict m place ≡ verdict n at → First table n at
+    same m place n at first e =
+        rw (← ap (λ (v : Verdict). v .number) e, ← ap (λ (v : Verdict). v .place) e) first
+
+-- what holds of every line whose cause holds while none before it does
+abbrev pub EachLine : (ℕ → ℕ → Type 0) → List Cause → Type 0
+EachLine P [] = Unit
+EachLine P (c ∷ cs) = (c .holds ≡ true → P (c .number) (c .place)) × (c .holds ≡ false → EachLine P cs)
+
+pub of-first : (P : ℕ → ℕ → Type 0) (table : List Cause) → EachLine P table → (n at : ℕ) → First table n at → P n at
+of-first P [] each n at first = absurd first
+of-first P (c ∷ cs) each n at first =
+    ⊎-elim
+    (λ here. rw (here .1 .0, here .1 .1) at (each .0 (here .0)))
+    (λ later. of-first P cs (each .1 (later .0)) n at (later .1))
+    first
+
+-- no line has number 0
+abbrev pub Numbered : List Cause → Type 0
+Numbered [] = Unit
+Numbered (c ∷ cs) = (c .number ≡ 0 → ⊥) × Numbered cs
+
+first-number : (table : List Cause) (n at : ℕ) → Numbered table → First table n at → n ≡ 0 → ⊥
+first-number [] n at numbered first e = absurd first
+first-number (c ∷ cs) n at numbered first e =
+    ⊎-elim (λ here. numbered .0 (here .1 .0 ∙ e)) (λ later. first-number cs n at (numbered .1) (later .1) e) first
+
+-- code that computes the verdict first and then goes by its number
+module _ (table : List Cause) (v : Verdict) (at : ℕ) (e : v ≡ verdictBy table (verdict 0 at)) where
+  pub refusing-line : (v .number ≡ 0 → ⊥) → First table (v .number) (v .place)
+  refusing-line nonzero =
+      ⊎-elim
+      (λ first. first)
+      (λ passed. absurd (nonzero (sym (ap (λ (w : Verdict). w .number) (passed .1)))))
+      (exactly-when table (verdict 0 at) .only-there (v .number) (v .place) (sym e))
+
+  pub passing-table : Numbered table → v .number ≡ 0 → NoneHolds table
+  passing-table numbered zero =
+      ⊎-elim
+      (λ first. absurd (first-number table (v .number) (v .place) numbered first zero))
+      (λ passed. passed .0)
+      (exactly-when table (verdict 0 at) .only-there (v .number) (v .place) (sym e))

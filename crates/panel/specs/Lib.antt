@@ -1,0 +1,6 @@
+pub mod Panel
+pub mod Chips
+pub mod Step
+pub mod Trace
+pub mod Promises
+pub mod LatchPromises
