@@ -84,7 +84,7 @@ static double ratio(const struct job *job)
     return job->best[ARCHIVE] / job->best[PLAIN];
 }
 
-/* The switches of a chip record; page, column and read latch are as in a fresh one. */
+/* A chip's bytes by its switches; page, column and read latch are as in a fresh chip. */
 #define SWITCHES(display, static_drive, duty, adc, start_line) display, static_drive, duty, adc, 0, 0, start_line, 0, 0, 0, 0, 0
 
 /* ---- replays ---- */

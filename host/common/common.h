@@ -71,7 +71,7 @@ bool read_file(const char *path, uint8_t *bytes, size_t room, size_t *length);
 /* "-" is standard output. Gives NULL where it fails, also for a file that is read. */
 FILE *open_output(const char *path);
 
-/* Whether open_output will have the file, as far as can be told before; makes it where it is missing, and leaves it else. */
+/* Whether open_output will have the file, as far as can be seen before; makes it where it is missing, and leaves it else. */
 bool can_be_written(const char *path);
 
 /* Whether all that was written has really gone out; also called where some was not (all_written false). */
@@ -90,7 +90,7 @@ bool append(struct bytes *bytes, const uint8_t *more, size_t length);
 
 /* ---- run.c: records to the chips, through a feed, and so of any length; chips and RAM as a file ---- */
 
-/* Chips and RAM as the records so far have left them; the feed record begins with the chips. */
+/* Chips and RAM as the records so far have left them; the feed's bytes begin with the chips. */
 struct run {
     const char *name;   /* of what is sent, for messages */
     uint8_t feed[PEDRALUME_FEED_BYTES];

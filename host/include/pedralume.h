@@ -28,11 +28,11 @@
  *   - the pointer is not null, even where the length is 0;
  *   - that many bytes really are there (writable, where the pointer is not to const);
  *   - it overlaps no other buffer of the same call.
- * All else is checked: wrong lengths, impossible chips and damaged records are refused by number. The one
- * exception is a stopped feed, which repeats its number whatever else it holds (FEED RECORD, below).
+ * All else is checked: wrong lengths, impossible chips, damaged feeds and wrong records are refused by number.
+ * The one exception is a stopped feed, which repeats its number whatever else it holds (FEED BYTES, below).
  *
  *
- * CHIP RECORD, 12 bytes; two of them, left then right, are the 24 bytes of "chips"
+ * CHIP BYTES, 12 for a chip; those of both, left then right, are the 24 bytes of "chips"
  *
  *   byte  field                range
  *    0    display              0 off, 1 on
@@ -126,11 +126,11 @@
  * until then.
  *
  *
- * FEED RECORD, 48 bytes: a replay in parts
+ * FEED BYTES, 48: a replay in parts
  *
  * A recorder hands its buffer over when it is full, often inside a record. A feed takes such parts
  * one after the other. It keeps the up to three bytes of a record that a part leaves unfinished, and
- * the next part goes on with them. Its record is all that it has beside RAM, which is lent with each
+ * the next part goes on with them. Its 48 bytes are all that it has beside RAM, which is lent with each
  * part:
  *
  *   byte   field
@@ -148,11 +148,11 @@
  *   _differing below read three of them.)
  *
  * Open it with pedralume_feed_open: 48 bytes of 0 pass for an open feed too, but on chips that are not
- * fresh. Of a record whose byte 28 is 1 nothing else is looked at: it repeats bytes 29 and 32 to 35,
- * whatever they hold.
+ * fresh. Where byte 28 is 1 nothing else is looked at: the feed repeats bytes 29 and 32 to 35, whatever
+ * they hold.
  *
- * A feed record may be copied, and kept as long as one likes: the copy, with a copy of RAM taken at
- * the same time, goes on from there as the first would have. Its first 24 bytes are chips that
+ * Feed bytes may be copied, and kept as long as one likes: the copy, with a copy of RAM taken at
+ * the same time, goes on from there as the first would have. The first 24 bytes are chips that
  * pedralume_frame takes, but where the opening was refused: then they are the bad ones it was given. An
  * opening does not mind what the 48 bytes hold before; to open a feed with the chips of one that is
  * stopped, copy these 24 out first, since the two buffers may not overlap.
@@ -215,8 +215,8 @@
  *                                                         : answer;
  *   }
  *
- * After each part given has its answers. At the end the first 24 bytes of the feed record are the chips,
- * and the counts are in it; take what is given back apart with pedralume_number and pedralume_feed_place.
+ * After each part given has its answers. At the end the first 24 bytes of the feed are the chips, and
+ * the counts are in the rest; take what is given back apart with pedralume_number and pedralume_feed_place.
  * With the five records of the first example below 20,000 times over, 400,000 bytes, from fresh chips and
  * RAM all 0, the number is 0, the place 100,000, the reads compared 20,000 and those that differ 0. Other
  * than in replay, a last record that is cut is found by the close (3), when all before it are replayed.
@@ -260,7 +260,7 @@
  *
  * Take it apart with pedralume_number, _place, _compared and _differing below; for a feed with
  * pedralume_number and pedralume_feed_place, and not with the other three. A feed's place has 32 bits,
- * and its counts so far are in its record, whatever the number. For frame, repaint and changes compared
+ * and its counts so far are in its bytes, whatever the number. For frame, repaint and changes compared
  * and differing are 0. Records are taken in order, and the first that is refused decides. Of the causes that
  * hold before any record, or else for that record, the lowest number is given, but 13 comes right after 1
  * and 14 right after 8; at equal number the left chip comes before the right one, and both before place 3.
@@ -277,13 +277,13 @@
  *        F     RAM not 640; frame not 488                          0
  *        P     picture not 244; output buffer under 1,016          0
  *        L     trace over 65,536 bytes; RAM not 640                0
- *        OTC   feed record not 48 bytes                            0
+ *        OTC   feed not 48 bytes                                   0
  *        T     part over 65,536 bytes; RAM not 640; answers        0
  *              under 2 bytes for each record that the part
  *              completes
  *   13   T     over 4,294,967,295 records since the opening, with  0
  *              those that the part completes
- *    2   all   a chip record with a field out of its range         chip
+ *    2   all   chip bytes with a field out of its range            chip
  *        TC    kept count over 3; compared above records;          3
  *              differing above compared; stopped neither 0 nor 1;
  *              byte 30 or 31 not 0; number or place not 0 while
@@ -455,16 +455,16 @@ extern "C" {
 #define PEDRALUME_FEED_MAX_RECORDS 4294967295u
 
 /*
- * The column where counting stops, one past the last that RAM has; the highest in a chip record. A column
+ * The column where counting stops, one past the last that RAM has; the highest in chip bytes. A column
  * set is any of the 128 bytes 00 to 7F all the same: those from this one on are refused (14, or 8 in
  * read-modify-write, as all are).
  */
 #define PEDRALUME_COLUMN_STOP 80u
 
-/* Initialiser of one fresh chip record. */
+/* Initialiser of the bytes of one fresh chip. */
 #define PEDRALUME_FRESH_CHIP 0, 0, 1, 0, 0, 0, 0, 0, 0, 0, 0, 0
 
-/* Places of the fields in a chip record. */
+/* Places of the fields in the bytes of a chip. */
 enum {
     PEDRALUME_DISPLAY = 0,
     PEDRALUME_STATIC = 1,
@@ -480,7 +480,7 @@ enum {
     PEDRALUME_ZERO = 11
 };
 
-/* Places of the fields in a feed record. */
+/* Places of the fields in the bytes of a feed. */
 enum {
     PEDRALUME_FEED_CHIPS = 0,
     PEDRALUME_FEED_KEPT_COUNT = 24,
@@ -494,7 +494,7 @@ enum {
     PEDRALUME_FEED_DIFFERING = 44
 };
 
-/* The place of number 2 where not a chip but the rest of a feed record is at fault. */
+/* The place of number 2 where not a chip but the rest of a feed's bytes is at fault. */
 enum { PEDRALUME_PLACE_OF_FEED = 3 };
 
 /* Lines of the four bus cycles. */
@@ -569,7 +569,7 @@ static inline const char *pedralume_words(unsigned number)
 /* The place that a call of a feed gives. */
 static inline uint32_t pedralume_feed_place(uint64_t answer) { return (uint32_t)(answer >> 8 & 0xFFFFFFFFu); }
 
-/* The number of 4 bytes in a feed record that begins at this byte; then the three that are counts. */
+/* The number of 4 bytes in a feed's bytes that begins at this one; then the three that are counts. */
 static inline uint32_t pedralume_feed_field(const uint8_t *feed, unsigned at)
 {
     return feed[at] | (uint32_t)feed[at + 1] << 8 | (uint32_t)feed[at + 2] << 16 | (uint32_t)feed[at + 3] << 24;
@@ -629,14 +629,14 @@ uint64_t pedralume_repaint(const uint8_t *chips, size_t chips_len,
                            uint8_t *output, size_t output_len);
 
 /*
- * Writes the feed record: the chips as given, nothing kept over, all counts 0. With a bad chip (2) the
+ * Writes the feed's 48 bytes: the chips as given, nothing kept over, all counts 0. With a bad chip (2) the
  * feed is stopped with that.
  */
 uint64_t pedralume_feed_open(uint8_t *feed, size_t feed_len,
                              const uint8_t *chips, size_t chips_len);
 
 /*
- * Replays the records that the kept bytes followed by the part make whole. Brings feed record and RAM
+ * Replays the records that the kept bytes followed by the part make whole. Brings feed and RAM
  * to what they are after the last accepted one, and writes 2 bytes of answers for each accepted one
  * from the start of answers; bytes past these stay. What the part leaves unfinished is kept over. A
  * part of length 0 is a part, and may be refused as one.
@@ -648,7 +648,7 @@ uint64_t pedralume_feed_part(uint8_t *feed, size_t feed_len,
 
 /*
  * Ends the feed: 3 where bytes are kept over, else 0. Changes stopped, number and place of the feed
- * record only, so that chips and counts can still be read.
+ * only, so that chips and counts can still be read.
  */
 uint64_t pedralume_feed_close(uint8_t *feed, size_t feed_len);
 

@@ -1,5 +1,5 @@
 //! Replay, frame, repaint, feed and changes, written plainly from documents 01 and 02 and, but for
-//! changes, for speed. The feed record of 48 bytes and the packing of what the feed's calls give back are
+//! changes, for speed. The 48 bytes of a feed and the packing of what the feed's calls give back are
 //! in neither paper: they are the project's own. It is what the archive is compared with and timed
 //! against, so it shares no code with it.
 #![forbid(unsafe_code)]
@@ -298,7 +298,7 @@ fn check_ready(state: &[Chip; 2]) -> Result<(), Outcome> {
     Ok(())
 }
 
-/// The 63 records that bring one picture row to one hidden page of a chip.
+/// The 63 records that bring one band of the picture to one hidden page of a chip.
 fn paint_page(records: &mut [[u8; 4]], chip: &Chip, which: u8, page: u8, pixels: &[u8]) {
     let column = if chip.reverse { 19 } else { 0 };
     records[0] = [2, which, 0xB8 + page, 0];
@@ -336,7 +336,7 @@ fn try_repaint(chips: &[u8], picture: &[u8], output: &mut [u8]) -> Result<Outcom
 /// All records taken, or the refusal of the first that is not.
 type Taken = Result<(), Outcome>;
 
-/// A feed record's fields, whatever they hold.
+/// The fields of a feed's bytes, whatever they hold.
 #[derive(Default)]
 struct Feed {
     chips: [[u8; CHIP]; 2],

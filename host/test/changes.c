@@ -1,7 +1,7 @@
 /*
  * The records that changed what the panel shows (C-14 of document 02), through the archive: every number
  * of the call, what stays at each, and which records are listed. What is expected is written out here from
- * the documents, or told by the archive's replay of one record at a time and document 01's pixels.
+ * the documents, or found by the archive's replay of one record at a time and document 01's pixels.
  */
 #define PROGRAM "changes"
 #include "check.h"
@@ -135,7 +135,7 @@ static unsigned differing_pixels(const struct view *a, const struct view *b, uns
     return count;
 }
 
-/* What is due for a trace that is accepted, told by replays of one record. */
+/* What is due for a trace that is accepted, found by replays of one record. */
 static size_t expect_changes(const struct view *given, const struct trace *t, struct change *due)
 {
     struct view before = *given, after = *given;
@@ -344,7 +344,7 @@ static void lit_view_by(struct view *v, unsigned chip, unsigned way, unsigned st
 }
 
 /*
- * Every command and each other cycle, from each setting of the switches, as the replay and the pixels tell it; a column
+ * Every command and each other cycle, from each setting of the switches, as the replay and the pixels show it; a column
  * set from 50 to 7F is refused.
  */
 static void test_all_cycles(void)

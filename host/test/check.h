@@ -1,5 +1,5 @@
 /*
- * What test.c and changes.c share: checks that are counted and told by the line they stand in, columns to
+ * What test.c and changes.c share: checks that are counted and reported by the line they stand in, columns to
  * be given, and document 01's pixels. The program names itself in PROGRAM first. Static inline as in support.h.
  */
 #ifndef CHECK_H

@@ -18,13 +18,13 @@ enum { OPEN, PART, CLOSE, KINDS };
 
 static const char *const kind_name[KINDS] = { "open", "part", "close" };
 
-/* What is lent: to open a feed record and chips, to part feed record, RAM, part and answers, to close a feed record. */
+/* What is lent: to open the feed's bytes and chips, to part the feed's bytes, RAM, part and answers, to close the feed's bytes. */
 enum { LOAN_FEED, LOAN_CHIPS = 1, LOAN_RAM = 1, LOAN_PART = 2, LOAN_ANSWERS = 3, LOANS };
 
 static const size_t loans_of[KINDS] = { 2, 4, 1 };
 static const bool constant[KINDS][LOANS] = { { false, true }, { false, false, true, false }, { false } };
 
-/* Answers by kind and number; repeats by a stopped feed; number 2 at place 3; bytes of an open feed record tried damaged. */
+/* Answers by call and number; repeats by a stopped feed; number 2 at place 3; bytes of an open feed tried damaged. */
 static struct {
     unsigned long given[KINDS][NUMBERS], repeated, place_3, damaged[FEED], records, straddling;
 } tally;
@@ -83,7 +83,7 @@ static void check_loan(const struct call *c, unsigned long at, size_t i, const s
         fail(name, at, "bytes written out of bounds");
 }
 
-/* A part: the bytes past the answers to its accepted records stay, and the record tells what was taken. */
+/* A part: the bytes past the answers to its accepted records stay, and the feed's bytes count what was taken. */
 static void check_part(const struct call *c, unsigned long at, const struct lent *l, uint64_t answer)
 {
     const uint8_t *before = c->bytes[LOAN_FEED], *after = l[LOAN_FEED].bytes;
@@ -215,7 +215,7 @@ static void push_counts(struct session *s)
     set_feed_counts(s->feed, records, compared, differing);
 }
 
-/* A feed record to try a call with: damaged in one to three bytes, late, stopped over junk, or junk throughout. */
+/* A feed's bytes to try a call with: damaged in one to three bytes, late, stopped over junk, or junk throughout. */
 static void spoil_feed(struct session *s)
 {
     switch (below(s->g, 6)) {

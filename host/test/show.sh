@@ -1,6 +1,6 @@
 #!/bin/sh
 # Runs show on good and bad inputs; checks status, messages, text and PBM bytes. Usage: show.sh SHOW LISTING WORK, the last a folder to work in.
-# LISTING is the plain implementation's listing program; it tells whether the example's recorded reads are right.
+# LISTING is the plain implementation's listing program; it shows whether the example's recorded reads are right.
 set -u
 show=$1 listing=$2 work=$3
 example=$(dirname "$0")/../../examples/name.trace new_name=$(dirname "$0")/../../examples/name.pbm

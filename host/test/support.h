@@ -39,7 +39,7 @@ enum {
     HALF_PIXELS = 32 * HALF_WIDTH
 };
 
-/* Highest value of each field of a chip record. */
+/* Highest value of each field of a chip's bytes. */
 static const uint8_t field_limit[CHIP] = { 1, 1, 1, 1, 1, 3, 31, COLUMN_STOP, COLUMN_STOP, 1, 255, 0 };
 
 /* The plain implementation. Frame and repaint have the same shape of call. */
@@ -51,7 +51,7 @@ extern paint_call plain_repaint;
 typedef uint64_t open_call(uint8_t *, size_t, const uint8_t *, size_t);
 typedef uint64_t close_call(uint8_t *, size_t);
 extern open_call plain_feed_open;
-extern replay_call plain_feed_part;         /* a feed record where replay has chips */
+extern replay_call plain_feed_part;         /* the feed's bytes where replay has chips */
 extern close_call plain_feed_close;
 typedef uint64_t changes_call(const uint8_t *, size_t, const uint8_t *, size_t, const uint8_t *, size_t, uint8_t *, size_t);
 extern changes_call plain_changes;
@@ -75,7 +75,7 @@ static inline bool refuses_record(unsigned number)
     return (number >= PEDRALUME_SPARE_BITS && number <= PEDRALUME_COLUMN_IN_RMW) || number == PEDRALUME_NO_SUCH_COLUMN;
 }
 
-/* ---- feed records ---- */
+/* ---- the feed's bytes ---- */
 
 /* Writes a field of 4 bytes; pedralume_feed_field reads one. */
 static inline void set_feed_field(uint8_t *feed, unsigned at, uint32_t value)
@@ -214,7 +214,7 @@ static inline bool is_missing_column(unsigned byte)
 
 /* ---- random states ---- */
 
-/* A chip record that number 2 lets pass; column and saved column are now and then the one where counting stops. */
+/* A chip's bytes that number 2 lets pass; column and saved column are now and then the one where counting stops. */
 static inline void draw_chip(struct rng *g, uint8_t *chip)
 {
     for (size_t i = 0; i < CHIP; i++)

@@ -1,7 +1,7 @@
 /*
  * Walks the table of numbers and the checked examples of document 01, and the feed, the stale latch and
  * the refused columns of document 02, through the archive. What is expected is written out here from the
- * documents, not taken from any implementation; what a feed leaves is told by the archive's replays of
+ * documents, not taken from any implementation; what a feed leaves is checked by the archive's replays of
  * whole records.
  */
 #define PROGRAM "test"
@@ -36,7 +36,7 @@ static void fresh_rig(struct rig *r)
     memset(r->ram, 0, RAM);
 }
 
-/* Every field away from its fresh value, every RAM byte told from its neighbours. */
+/* Every field away from its fresh value, every RAM byte unlike its neighbours. */
 static void busy_rig(struct rig *r, bool rmw)
 {
     static const uint8_t busy[CHIP] = { 1, 1, 0, 1, 1, 2, 9, 33, 7, 1, 0x5C, 0 };
@@ -207,7 +207,7 @@ static void test_byte_examples(void)
 
 /* ---- every cycle ---- */
 
-/* Does the command to the record as the table of commands, C-12 and C-15 say; gives the number. */
+/* Does the command to the chip's bytes as the table of commands, C-12 and C-15 say; gives the number. */
 static unsigned expect_command(uint8_t *chip, unsigned byte)
 {
     static const struct { uint8_t first, last, field; } set[] = {
@@ -331,7 +331,7 @@ static void test_all_status(void)
 
 /* ---- columns that RAM has not (C-15) ---- */
 
-/* Refused, and nothing changes: the latch, which was fresh, still is, as the next data read tells. */
+/* Refused, and nothing changes: the latch, which was fresh, still is, as the next data read shows. */
 static void test_missing_column(unsigned chip, unsigned byte, bool rmw)
 {
     static struct rig r, before;
@@ -563,7 +563,7 @@ static void test_bad_lengths(void)
     test_stays(&r, t, (struct lengths){ CHIPS, RAM, t->len + 3, 19 }, 1, 0);
 }
 
-/* The record of one chip with one field out of range: number 2 with the chip as place. */
+/* The bytes of one chip with one field out of range: number 2 with the chip as place. */
 static void test_bad_field(unsigned chip, unsigned field, unsigned value)
 {
     const struct trace *t = prelude();
@@ -1213,7 +1213,7 @@ static void check_stopped(const struct intake *n, unsigned number, uint64_t plac
     CLOSE_STAYS(n, FEED + 1, 1, 0);
 }
 
-/* An intake that has taken so many bytes of a trace that is accepted, told by replays of whole records. */
+/* An intake that has taken so many bytes of a trace that is accepted, as a replay of whole records leaves it. */
 static void expect_intake(struct intake *n, const struct trace *t, size_t taken)
 {
     static struct rig r;
@@ -1425,7 +1425,7 @@ static void test_feed_refused(void)
 }
 
 /*
- * A column that RAM has not, in two parts, cut anywhere up to its end: the latch stays fresh, as a feed tells that is
+ * A column that RAM has not, in two parts, cut anywhere up to its end: the latch stays fresh, as a feed shows that is
  * opened with the chips of the one that is stopped.
  */
 static void test_feed_missing_column(unsigned chip)
@@ -1495,7 +1495,7 @@ static void test_part_lengths(void)
     check_goes_on(&n, &t);
 }
 
-/* One byte of a feed record that is not allowed there; place as number 2 gives it. */
+/* One of the feed's bytes with a value that is not allowed there; place as number 2 gives it. */
 static const struct bad_byte {
     uint8_t at, value, place;
 } bad_bytes[] = {
@@ -1564,7 +1564,7 @@ static void test_bad_feed_chips(void)
     check_bad_feed(&n, &t, 0);
 }
 
-/* In a feed record, each of its columns; where they pass, a part of length 0 is taken, and the close finds three bytes kept over. */
+/* In the feed's bytes, each of its columns; where they pass, a part of length 0 is taken, and the close finds three bytes kept over. */
 static void test_feed_columns(void)
 {
     static struct intake good, n;
@@ -1642,7 +1642,7 @@ static void test_most_records(void)
     check_stopped(&n, 0, most);
 }
 
-/* A refused record counts toward number 13 too, since that is told before any is looked at. */
+/* A refused record counts toward number 13 too, since that is tested before any is looked at. */
 static void test_late_refusal(void)
 {
     static const uint8_t bytes[2 * RECORD] = { 4, 0, 0x60, 0, 2, 0, 0x80, 0 };
@@ -1729,7 +1729,7 @@ static void test_idle_kept_bytes(void)
     }
 }
 
-/* A copy of feed record and RAM goes on as the first does. */
+/* A copy of the feed's bytes and RAM goes on as the first does. */
 static void test_feed_copy(void)
 {
     const struct trace *t = prelude();

@@ -85,7 +85,7 @@ cat >"$work/wanted" <<'.'
 # end: number 0, done, place 7; records taken: 7, reads compared: 2, differing: 1
 .
 printed "skip" "$work/wanted"
-left_out() { # LABEL: what text --skip tells of $t is what text tells of it without the refused records
+left_out() { # LABEL: what text --skip prints of $t is what text prints of it without the refused records
     "$show" --skip "$t" 2>/dev/null >"$work/skipped"
     grep -v '  refused: ' "$work/skipped" | "$show" --back >"$work/clean"
     "$show" "$work/clean" 2>/dev/null | sed 's/^ *[0-9]*: //' >"$work/wanted"
@@ -144,7 +144,7 @@ for lines in 0 1 2 3 4 5 6 7 8 255; do
         check "lines $lines, chip $chip: lines" same "$(wc -l <"$text")" 258
     done
 done
-told() { # LABEL: the answers that text tells for $t are those of the plain implementation
+told() { # LABEL: the answers that text prints for $t are those of the plain implementation
     "$show" "$t" 2>/dev/null | awk -f "$tests/as_listing.awk" >"$work/told"
     "$listing" <"$t" >"$work/wanted"
     check "$1: the answers" cmp -s "$work/told" "$work/wanted"

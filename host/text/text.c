@@ -58,7 +58,7 @@ enum {
 
 /* ---- a line ---- */
 
-/* What the chip gave, or why it gave nothing. The counts before tell whether this read was compared, and differs; a data
+/* What the chip gave, or why it gave nothing. The counts before show whether this read was compared, and differs; a data
  * write that stores nothing leaves the column. */
 static void print_answer(const struct run *run, const struct run *before, const uint8_t record[RECORD],
                          const uint8_t answer[PEDRALUME_ANSWER_BYTES])
@@ -111,11 +111,11 @@ struct telling {
     bool skip;
     unsigned long skipped;  /* refused records left out so far */
     unsigned long number;   /* of the next record */
-    size_t length;          /* of what is read and not told yet */
+    size_t length;          /* of what is read and not printed yet */
     uint8_t bytes[RECORD + PART];
 };
 
-/* A copy of the run tells what the record changed, and where to go on from where it is refused and to be left out. */
+/* A copy of the run shows what the record changed, and where to go on from where it is refused and to be left out. */
 static void tell_record(struct telling *telling, const uint8_t record[RECORD])
 {
     struct run before = telling->run;
@@ -131,7 +131,7 @@ static void tell_record(struct telling *telling, const uint8_t record[RECORD])
     }
 }
 
-/* Tells what is whole, and moves the rest to the front. */
+/* Prints the whole records, and moves the rest to the front. */
 static bool tell_records(struct telling *telling)
 {
     size_t at = 0;
@@ -199,7 +199,7 @@ static bool may_tell(const char *file, const char *start)
     return !twice || wrong_argument("only one of the files that are read can be", "-");
 }
 
-/* Nothing of the manner of telling goes with --back. */
+/* Nothing of the manner of printing goes with --back. */
 static bool may_write_trace(const struct manner *manner)
 {
     if (manner->start != NULL || manner->skip || manner->check)

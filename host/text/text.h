@@ -4,7 +4,7 @@
 
 #include "common.h"
 
-/* How a trace is told. */
+/* How a trace is printed. */
 struct manner {
     const char *start;  /* the file of chips and RAM to begin with, or NULL */
     bool skip;          /* a refused record is left out, and the next one sent */

@@ -12,7 +12,7 @@ use Rattle.basics.specs.Choice.{if}
 use Rattle.basics.specs.Lists.{joined}
 use Rattle.basics.proofs.Tests.{tested, when}
 
--- of the n numbers from `at` on
+-- the list of an element for each of the n numbers from `at` on that a test holds of
 abbrev pub chosenFrom : {A : Type 0} → (ℕ → Bool) → (ℕ → A) → ℕ → ℕ → List A
 chosenFrom test f at n = joined (λ k. if (test k) (f k ∷ []) []) at n
 
@@ -23,8 +23,8 @@ chosen-few {A} test f at (suc n) =
     let rest = chosen-few test f (at + 1) n in
     when (λ (l : List A). length (l ++ chosenFrom test f (at + 1) n) ≤ suc n) (test at) (λ _. omega arith) (λ _. omega arith)
 
--- elements that tell their numbers
-module _ {A : Type 0} (test : ℕ → Bool) (f : ℕ → A) (index : A → ℕ) (told : (k : ℕ) → index (f k) ≡ k) (none : A) where
+-- elements whose numbers `index` gives back
+module _ {A : Type 0} (test : ℕ → Bool) (f : ℕ → A) (index : A → ℕ) (indexed : (k : ℕ) → index (f k) ≡ k) (none : A) where
   -- the element of one of the n numbers from `at` on, of which the test holds
   pub record Chosen (at n : ℕ) (a : A) : Type 0 where
     pub from : at ≤ index a
@@ -49,20 +49,25 @@ module _ {A : Type 0} (test : ℕ → Bool) (f : ℕ → A) (index : A → ℕ) 
   first-chosen at n l t rest = record { each = each; every = every; order = order }
     where
       each : (i : ℕ) → i < suc (length l) → Chosen at (suc n) (getD (f at ∷ l) i none)
-      each zero h = record { from = omega (arith, told at); below = omega (arith, told at); holds = rw (told at) t; itself = rw (told at) }
+      each zero h = record {
+        from = omega (arith, indexed at);
+        below = omega (arith, indexed at);
+        holds = rw (indexed at) t;
+        itself = rw (indexed at);
+      }
       each (suc i) h = chosen-later (rest .each i (omega arith))
 
       every : (k : ℕ) → at ≤ k → k < at + suc n → test k ≡ true → Has (f at ∷ l) k
       every k from below holds =
           ⊎-elim
-          (λ same. (0, (omega arith, told at ∙ sym (eqb-true k at same))))
+          (λ same. (0, (omega arith, indexed at ∙ sym (eqb-true k at same))))
           (λ other. let later = rest .every k (omega (arith, eqb-false k at other)) (omega arith) holds in
           (suc (later .0), (omega arith, later .1 .1)))
           (tested (eqb k at))
 
       order : (i j : ℕ) → i < j → j < suc (length l) → index (getD (f at ∷ l) i none) < index (getD (f at ∷ l) j none)
       order i zero less h = absurd (omega arith)
-      order zero (suc j) less h = omega (arith, told at, rest .each j (omega arith) .from)
+      order zero (suc j) less h = omega (arith, indexed at, rest .each j (omega arith) .from)
       order (suc i) (suc j) less h = rest .order i j (omega arith) (omega arith)
 
   not-first : (at n : ℕ) (l : List A) → test at ≡ false → ChosenList (at + 1) n l → ChosenList at (suc n) l

@@ -9,7 +9,7 @@ use lib.Dec.{eqb}
 use lib.ListN.{length, take, drop, length-append, length-drop, take-append-drop, drop-of-length-le}
 use lib.Seq.{take-all, take-at, drop-at, length-take-le}
 use Rattle.basics.specs.Choice.{if}
-use Rattle.basics.specs.Halves.{startOf, partAt, partPut}
+use Rattle.basics.specs.Halves.{partStart, partAt, partPut}
 use Rattle.basics.proofs.Tests.{tested, when}
 
 -- nothing stands past the end of a part
@@ -23,7 +23,7 @@ both-written n l r blank first second hl hb is-l is-r =
     rw (is-l, is-r, take-at l blank n hl, drop-at l blank n hl, past n blank hb, append-nil)
 
 -- part k of two, which begins at s
-module _ (n k s : ℕ) (bytes : List ℕ) (two : length bytes ≡ n + n) (start : s ≡ startOf n k) where
+module _ (n k s : ℕ) (bytes : List ℕ) (two : length bytes ≡ n + n) (start : s ≡ partStart n k) where
   at-front : eqb k 0 ≡ true → s ≡ 0
   at-front l = rw (start, l)
 
@@ -50,7 +50,7 @@ module _ (n k s : ℕ) (bytes : List ℕ) (two : length bytes ≡ n + n) (start 
       (λ r. rw (size, at-rear r, r) (rw (past n (drop n bytes) last, append-nil)))
       (tested (eqb k 0))
 
-pub start-within : (n k s : ℕ) → s ≡ startOf n k → s ≤ n
+pub start-within : (n k s : ℕ) → s ≡ partStart n k → s ≤ n
 start-within n k s start = rw start (when (λ (m : ℕ). m ≤ n) (eqb k 0) (λ _. omega arith) (λ _. omega arith))
 
 -- a part put back as it was

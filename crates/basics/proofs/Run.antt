@@ -10,11 +10,11 @@ use lib.Dec.{eqb, leb}
 use lib.ListN.{length, getD, take, length-append}
 use lib.Seq.{take-nil, take-append-le, take-append-add}
 use borrow.Author.Tests.{eq-eqb, ne-eqb, eqb-true, eqb-false, leb-true, leb-false}
-use Rattle.basics.specs.Run.{Turn, Run, ranTo, answeredFirst, runOf}
+use Rattle.basics.specs.Run.{Step, Run, asRun, answeredFirst, runOf}
 use Rattle.basics.proofs.Tests.{tested}
 
-module _ {S R A : Type 0} (step : S → R → Turn S A) where
-  run-none : (s : S) → runOf step s [] ≡ ranTo 0 [] s
+module _ {S R A : Type 0} (step : S → R → Step S A) where
+  run-none : (s : S) → runOf step s [] ≡ asRun 0 [] s
   unfolding runOf
   run-none s = refl
 
@@ -23,14 +23,14 @@ module _ {S R A : Type 0} (step : S → R → Turn S A) where
   unfolding runOf
   run-accepted s r rs t = rw t
 
-  run-refused : (s : S) (r : R) (rs : List R) → eqb (step s r .number) 0 ≡ false → runOf step s (r ∷ rs) ≡ ranTo (step s r .number) [] s
+  run-refused : (s : S) (r : R) (rs : List R) → eqb (step s r .number) 0 ≡ false → runOf step s (r ∷ rs) ≡ asRun (step s r .number) [] s
   unfolding runOf
   run-refused s r rs t = rw t
 
   -- what is so of a run after an accepted record, and of one that its first record ends
   by-first : (P : Run S A → Type 0) (s : S) (r : R) (rs : List R)
       → (eqb (step s r .number) 0 ≡ true → P (answeredFirst (step s r .answer) (runOf step (step s r .next) rs)))
-      → (eqb (step s r .number) 0 ≡ false → P (ranTo (step s r .number) [] s)) → P (runOf step s (r ∷ rs))
+      → (eqb (step s r .number) 0 ≡ false → P (asRun (step s r .number) [] s)) → P (runOf step s (r ∷ rs))
   by-first P s r rs accepted refused =
       ⊎-elim
       (λ t. rw (run-accepted s r rs t) (accepted t))
@@ -53,7 +53,7 @@ module _ {S R A : Type 0} (step : S → R → Turn S A) where
 
   -- two lists joined: the second begins where the first led; and a run that ends within the first
   pub run-join : (s : S) (rs qs : List R) → runOf step s rs .number ≡ 0 → let second = runOf step (runOf step s rs .state) qs in
-      runOf step s (rs ++ qs) ≡ ranTo (second .number) (runOf step s rs .answers ++ second .answers) (second .state)
+      runOf step s (rs ++ qs) ≡ asRun (second .number) (runOf step s rs .answers ++ second .answers) (second .state)
   run-join s [] qs done = rw (run-none s)
   run-join s (r ∷ rs) qs done =
       let t = first-accepted s r rs done in
@@ -84,20 +84,20 @@ module _ {S R A : Type 0} (step : S → R → Turn S A) where
       (tested (eqb (runOf step s rs .number) 0))
 
   -- one record more, after a run that was done: accepted, or refused with any others behind it
-  module _ (s : S) (rs : List R) {answers : List A} {t : S} (so-far : runOf step s rs ≡ ranTo 0 answers t) (r : R) where
+  module _ (s : S) (rs : List R) {answers : List A} {t : S} (so-far : runOf step s rs ≡ asRun 0 answers t) (r : R) where
     joined-here : (qs : List R) → let second = runOf step t qs in
-        runOf step s (rs ++ qs) ≡ ranTo (second .number) (answers ++ second .answers) (second .state)
+        runOf step s (rs ++ qs) ≡ asRun (second .number) (answers ++ second .answers) (second .state)
     joined-here qs = rw so-far at (run-join s rs qs (rw so-far))
 
-    pub one-more : step t r .number ≡ 0 → runOf step s (rs ++ (r ∷ [])) ≡ ranTo 0 (answers ++ (step t r .answer ∷ [])) (step t r .next)
+    pub one-more : step t r .number ≡ 0 → runOf step s (rs ++ (r ∷ [])) ≡ asRun 0 (answers ++ (step t r .answer ∷ [])) (step t r .next)
     one-more e = joined-here (r ∷ []) ∙ rw (run-accepted t r [] (eq-eqb (step t r .number) 0 e), run-none (step t r .next))
 
-    pub refused-next : (qs : List R) → (step t r .number ≡ 0 → ⊥) → runOf step s (rs ++ (r ∷ qs)) ≡ ranTo (step t r .number) answers t
+    pub refused-next : (qs : List R) → (step t r .number ≡ 0 → ⊥) → runOf step s (rs ++ (r ∷ qs)) ≡ asRun (step t r .number) answers t
     refused-next qs h = joined-here (r ∷ qs) ∙ rw (run-refused t r qs (ne-eqb (step t r .number) 0 h), append-nil)
 
   -- the first k records of a run that answered as many
   pub run-prefix : (k : ℕ) (rs : List R) (s : S) → k ≤ length (runOf step s rs .answers)
-      → runOf step s (take k rs) ≡ ranTo 0 (take k (runOf step s rs .answers)) (runOf step s (take k rs) .state)
+      → runOf step s (take k rs) ≡ asRun 0 (take k (runOf step s rs .answers)) (runOf step s (take k rs) .state)
   run-prefix zero rs s h = rw (run-none s)
   run-prefix (suc k) [] s h = let h′ = rw run-none at h in absurd (omega arith)
   run-prefix (suc k) (r ∷ rs) s h =
@@ -245,9 +245,9 @@ module _ {S R A : Type 0} (step : S → R → Turn S A) where
       rw (run-accepted s r (take k rs) t) (accepted-at none rs (step s r .next) (rw (run-accepted s r rs t) at done) k (omega arith))
 
 -- two steps whose states stay alike, and which give each record the same number and answers that look the same
-module _ {S T R A L : Type 0} (step : S → R → Turn S A) (other : T → R → Turn T A) (Like : S → T → Type 0) (look : A → L) where
+module _ {S T R A L : Type 0} (step : S → R → Step S A) (other : T → R → Step T A) (Like : S → T → Type 0) (look : A → L) where
   -- what they give one record
-  pub record AlikeTurns (s : S) (t : T) (r : R) : Type 0 where
+  pub record AlikeSteps (s : S) (t : T) (r : R) : Type 0 where
     pub number : step s r .number ≡ other t r .number
     pub answer : look (step s r .answer) ≡ look (other t r .answer)
     pub next : Like (step s r .next) (other t r .next)
@@ -258,15 +258,15 @@ module _ {S T R A L : Type 0} (step : S → R → Turn S A) (other : T → R →
     pub answers : map look (a .answers) ≡ map look (b .answers)
     pub state : Like (a .state) (b .state)
 
-  pub run-alike : ((s : S) (t : T) → Like s t → (r : R) → AlikeTurns s t r) → (rs : List R) (s : S) (t : T) → Like s t
+  pub run-alike : ((s : S) (t : T) → Like s t → (r : R) → AlikeSteps s t r) → (rs : List R) (s : S) (t : T) → Like s t
       → AlikeRuns (runOf step s rs) (runOf other t rs)
-  run-alike turns [] s t like = rw (run-none step s, run-none other t) (record { number = refl; answers = refl; state = like })
-  run-alike turns (r ∷ rs) s t like =
-      let turn = turns s t like r in
+  run-alike alike [] s t like = rw (run-none step s, run-none other t) (record { number = refl; answers = refl; state = like })
+  run-alike alike (r ∷ rs) s t like =
+      let one = alike s t like r in
       ⊎-elim
-      (λ e. let rest = run-alike turns rs (step s r .next) (other t r .next) (turn .next) in
-      rw (run-accepted step s r rs e, run-accepted other t r rs (rw (turn .number) at e))
-      (record { number = rest .number; answers = rw (turn .answer, rest .answers); state = rest .state }))
-      (λ e. rw (run-refused step s r rs e, run-refused other t r rs (rw (turn .number) at e))
-      (record { number = turn .number; answers = refl; state = like }))
+      (λ e. let rest = run-alike alike rs (step s r .next) (other t r .next) (one .next) in
+      rw (run-accepted step s r rs e, run-accepted other t r rs (rw (one .number) at e))
+      (record { number = rest .number; answers = rw (one .answer, rest .answers); state = rest .state }))
+      (λ e. rw (run-refused step s r rs e, run-refused other t r rs (rw (one .number) at e))
+      (record { number = one .number; answers = refl; state = like }))
       (tested (eqb (step s r .number) 0))

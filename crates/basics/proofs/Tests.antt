@@ -1,4 +1,4 @@
--- What a test made of two tests tells.
+-- What follows from a test made of two tests, and what holds of a choice.
 use Prim.Native.Nat.{ℕ}
 use mathlib.Core.Bool.{Bool, true, false, not, _&&_, _||_, false≢true, true≢false}
 use mathlib.Core.Path.{_≡_, refl}
@@ -32,7 +32,7 @@ pub when : {A : Type 0} (P : A → Type 0) (t : Bool) {a b : A} → (t ≡ true 
 when P true pass fail = pass refl
 when P false pass fail = fail refl
 
--- so with two choices by tests that agree
+-- what holds of both choices either way holds of the two choices, by tests that agree
 pub when-both : {A B : Type 0} (P : A → B → Type 0) (s t : Bool) → s ≡ t → {a b : A} {c d : B} → (s ≡ true → P a c) → (s ≡ false → P b d)
     → P (if s a b) (if t c d)
 when-both P true true e pass fail = pass refl

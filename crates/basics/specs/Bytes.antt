@@ -5,6 +5,10 @@ use mathlib.Core.List.{List, [], _∷_, _++_}
 use lib.Dec.{eqb}
 use lib.ListN.{length, take, drop}
 
+-- what two bytes hold is below this
+abbrev pub pairLimit : ℕ
+pairLimit = 65536
+
 -- a number below 2^16 as two bytes
 abbrev pub pairBytes : ℕ → List ℕ
 pairBytes n = n % 256 ∷ n / 256 ∷ []

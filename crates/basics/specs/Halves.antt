@@ -6,10 +6,10 @@ use lib.ListN.{take, drop}
 use Rattle.basics.specs.Choice.{if}
 
 -- where part k begins
-abbrev pub startOf : ℕ → ℕ → ℕ
-startOf n k = if (eqb k 0) 0 n
+abbrev pub partStart : ℕ → ℕ → ℕ
+partStart n k = if (eqb k 0) 0 n
 
--- part k
+-- part k of two parts of n bytes
 abbrev pub partAt : ℕ → ℕ → List ℕ → List ℕ
 partAt n k bytes = if (eqb k 0) (take n bytes) (drop n bytes)
 

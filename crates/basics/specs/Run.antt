@@ -5,7 +5,7 @@ use lib.Dec.{eqb}
 use Rattle.basics.specs.Choice.{if}
 
 -- what a step makes of a record: 0 or the number by which it refuses it, its answer, and the state after it
-pub record Turn (S A : Type 0) : Type 0 where
+pub record Step (S A : Type 0) : Type 0 where
   pub number : ℕ
   pub answer : A
   pub next : S
@@ -17,15 +17,15 @@ pub record Run (S A : Type 0) : Type 0 where
   pub state : S
 
 -- a run from its number, its answers and its state
-abbrev pub ranTo : {S A : Type 0} → ℕ → List A → S → Run S A
-ranTo n answers s = record { number = n; answers = answers; state = s }
+abbrev pub asRun : {S A : Type 0} → ℕ → List A → S → Run S A
+asRun n answers s = record { number = n; answers = answers; state = s }
 
 -- one answer more, before those of a run
 abbrev pub answeredFirst : {S A : Type 0} → A → Run S A → Run S A
-answeredFirst a r = ranTo (r .number) (a ∷ r .answers) (r .state)
+answeredFirst a r = asRun (r .number) (a ∷ r .answers) (r .state)
 
 -- the run of a step over a list of records; the record that is refused has no effect
-unfoldable pub runOf : {S R A : Type 0} → (S → R → Turn S A) → S → List R → Run S A
-runOf step s [] = ranTo 0 [] s
+unfoldable pub runOf : {S R A : Type 0} → (S → R → Step S A) → S → List R → Run S A
+runOf step s [] = asRun 0 [] s
 runOf step s (r ∷ rs) =
-    if (eqb (step s r .number) 0) (answeredFirst (step s r .answer) (runOf step (step s r .next) rs)) (ranTo (step s r .number) [] s)
+    if (eqb (step s r .number) 0) (answeredFirst (step s r .answer) (runOf step (step s r .next) rs)) (asRun (step s r .number) [] s)

@@ -1,8 +1,8 @@
--- What a call says of itself, and what it leaves.
+-- A number with its place, and an answer with what the call leaves in what it was lent.
 use Prim.Native.Nat.{ℕ}
 use Rattle.basics.specs.declared.verdict.Verdict.{Verdict}
 
--- a number and its place
+-- a verdict from its number and its place
 abbrev pub verdict : ℕ → ℕ → Verdict
 verdict n at = record { number = n; place = at }
 
@@ -11,6 +11,6 @@ pub record Result (A L : Type 0) : Type 0 where
   pub answer : A
   pub lent : L
 
--- an answer with what is left
+-- a result from its answer and from what the call leaves in what it was lent
 abbrev pub result : {A L : Type 0} → A → L → Result A L
 result a lent = record { answer = a; lent = lent }

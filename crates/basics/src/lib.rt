@@ -1,5 +1,5 @@
-// Choices, lists, buffers, counts, runs and tables of numbers: definitions and laws that every other crate uses; a number with its place,
-// and the copying of bytes.
+// Choices, lists, buffers, counts, runs and tables of numbers: definitions and laws that every other crate uses; a number
+// with its place, and the copying of bytes.
 pub mod verdict;
 
 ghost use mathlib.Core.Path.{_≡_};

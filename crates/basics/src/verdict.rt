@@ -11,7 +11,7 @@ pub struct Verdict {
 }
 
 impl Verdict {
-    // Both together.
+    // A verdict from its number and its place.
     pub fn new(number: u8, place: u64) -> Verdict
         ensures { λ r. ⌜ r ≡ verdict number place ⌝ }
     {

@@ -14,20 +14,20 @@ use Rattle.basics.specs.declared.verdict.Verdict.{Verdict}
 use Rattle.basics.proofs.Tests.{neither, no-other}
 use Rattle.sed1520.specs.Chip.{outOfRange}
 use Rattle.panel.specs.Panel.{Panel}
-use Rattle.frame.specs.Frame.{frameBytes, frameOf, frameSizesWrong, frameTable, framed}
+use Rattle.frame.specs.Frame.{frameLength, frameOf, frameSizesWrong, frameTable, framed}
 use Rattle.frame.specs.Laws.{EveryFrameGiven, FrameNumbers}
-use Rattle.frame.proofs.TableCalls.{call-exactly, call-place}
+use Rattle.basics.proofs.Table.{call-exactly, call-place}
 
-pub sizes-right : (ram frame : ℕ) → frameSizesWrong ram frame ≡ false → (ram ≡ 640) × (frame ≡ frameBytes)
+pub sizes-right : (ram frame : ℕ) → frameSizesWrong ram frame ≡ false → (ram ≡ 640) × (frame ≡ frameLength)
 unfolding frameSizesWrong
 sizes-right ram frame e =
-    let right = neither (not (eqb ram 640)) (not (eqb frame frameBytes)) e in
-    (no-other ram 640 (right .0), no-other frame frameBytes (right .1))
+    let right = neither (not (eqb ram 640)) (not (eqb frame frameLength)) e in
+    (no-other ram 640 (right .0), no-other frame frameLength (right .1))
 
 pub every-frame-given : EveryFrameGiven
 unfolding framed frameSizesWrong
 every-frame-given p buffer whole size =
-    rw (eq-eqb (length (p .ram)) 640 (whole .image), eq-eqb (length buffer) frameBytes size, whole .left, whole .right)
+    rw (eq-eqb (length (p .ram)) 640 (whole .image), eq-eqb (length buffer) frameLength size, whole .left, whole .right)
 
 -- the lines of a call
 abbrev table : Panel → List ℕ → List Cause
@@ -35,7 +35,7 @@ table p buffer = frameTable (outOfRange (p .left)) (outOfRange (p .right)) (leng
 
 -- what is given where no line holds
 abbrev given : Panel → Result Verdict (List ℕ)
-given p = result (verdict 0 frameBytes) (frameOf p)
+given p = result (verdict 0 frameLength) (frameOf p)
 
 pub frame-numbers : FrameNumbers
 unfolding framed

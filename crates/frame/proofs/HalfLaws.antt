@@ -12,7 +12,7 @@ use Rattle.sed1520.specs.Chip.{fresh, withDisplay, withStatic, withDuty, withRe
 use Rattle.sed1520.specs.Laws.{ShownRegisters}
 use Rattle.sed1520.specs.Memory.{byteAt}
 use Rattle.sed1520.specs.declared.registers.Chip.{Chip}
-use Rattle.frame.specs.Frame.{columnOf, lineBit, pixel, frameByte}
+use Rattle.frame.specs.Frame.{ramColumn, lineBit, pixel, frameByte}
 use Rattle.frame.specs.Laws.{SameShown, TwoPages, HalfLaws}
 use Rattle.frame.proofs.Packing.{packed-same, packed-bits}
 use Rattle.frame.proofs.Pixels.{byte-bit}
@@ -27,7 +27,7 @@ shown-same true true hidden same = refl
 shown-same true false true same = refl
 shown-same true false false same = same refl
 
--- a chip by the registers that a frame looks at
+-- a chip by the registers that are shown
 abbrev showing : ShownRegisters → Chip
 showing s =
     withStartLine (s .line) (withReverse (s .reverse) (withDuty (s .duty) (withStatic (s .static) (withDisplay (s .display) fresh))))
@@ -52,13 +52,13 @@ module _ (c : Chip) (ram : List ℕ) (n r : ℕ) (pages : TwoPages c) where
   half-lower : 2 ≤ r → frameByte c ram n r ≡ 0
   half-lower h = rw (segment-byte c ram n r, pages .display, pages .static, pages .duty, le-leb 2 r h)
 
-  half-upper : r < 2 → frameByte c ram n r ≡ byteAt ram (c .«start_line» / 8 + r) (columnOf c n) % 256
+  half-upper : r < 2 → frameByte c ram n r ≡ byteAt ram (c .«start_line» / 8 + r) (ramColumn c n) % 256
   half-upper h =
       let line = c .«start_line» in
       let whole : line % 8 ≡ 0 = ⊎-elim (λ e. omega arith) (λ e. omega arith) (pages .line) in
       let near : line ≤ 16 = ⊎-elim (λ e. omega arith) (λ e. omega arith) (pages .line) in
       rw (segment-byte c ram n r, pages .display, pages .static, pages .duty, lt-leb 2 r h)
-      (packed-bits 8 (lineBit ram (columnOf c n)) (line + 8 * r) (byteAt ram (line / 8 + r) (columnOf c n))
+      (packed-bits 8 (lineBit ram (ramColumn c n)) (line + 8 * r) (byteAt ram (line / 8 + r) (ramColumn c n))
       (λ i l.
       let page : (line + 8 * r + i) % 32 / 8 ≡ line / 8 + r = omega arith in
       let bit : (line + 8 * r + i) % 8 ≡ i = omega arith in

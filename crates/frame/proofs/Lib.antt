@@ -2,7 +2,6 @@ pub mod Packing
 pub mod Lines
 pub mod Segments
 pub mod Places
-pub mod TableCalls
 pub mod FrameCases
 pub mod HalfLaws
 pub mod Pixels

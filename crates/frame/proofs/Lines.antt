@@ -16,7 +16,7 @@ use Rattle.basics.proofs.Tests.{tested}
 use Rattle.sed1520.specs.Memory.{byteAt}
 use Rattle.sed1520.specs.declared.registers.Chip.{Chip}
 use Rattle.sed1520.specs.Laws.{Fit}
-use Rattle.frame.specs.Frame.{segments, columnOf, lineBit, pixel, packedPixels, segmentRows, segmentTable, segmentPixels}
+use Rattle.frame.specs.Frame.{segments, ramColumn, lineBit, pixel, packedPixels, segmentRows, segmentTable, segmentPixels}
 use Rattle.frame.specs.Laws.{SegmentNumbers}
 use Rattle.frame.specs.declared.segment.Segment.{Segment}
 use Rattle.frame.proofs.Packing.{packed-same, packed-bits, packed-bit, wide-upper, wide-lower}
@@ -112,18 +112,18 @@ switched false false false f = refl
 module _ (c : Chip) (ram : List ℕ) (n : ℕ) where
   -- the lines that a segment shows, from its chip's start line on
   abbrev shown : ℕ → ℕ
-  shown = packedPixels (lineBit ram (columnOf c n)) (c .«start_line»)
+  shown = packedPixels (lineBit ram (ramColumn c n)) (c .«start_line»)
 
-  from-start : (rows : ℕ) → packedPixels (λ row. lineBit ram (columnOf c n) (c .«start_line» + row)) 0 rows ≡ shown rows
+  from-start : (rows : ℕ) → packedPixels (λ row. lineBit ram (ramColumn c n) (c .«start_line» + row)) 0 rows ≡ shown rows
   from-start rows =
-      packed-same rows (λ row. lineBit ram (columnOf c n) (c .«start_line» + row)) (lineBit ram (columnOf c n)) 0 (c .«start_line»)
+      packed-same rows (λ row. lineBit ram (ramColumn c n) (c .«start_line» + row)) (lineBit ram (ramColumn c n)) 0 (c .«start_line»)
       (λ i h. let e : 0 + i ≡ i = omega arith in rw e)
 
   segment-shown : segmentRows c ram n
       ≡ if (not (c .«display_on»)) 0 (if (c .«static_on») 0xFFFFFFFF (if (c .«duty_32») (shown 32) (shown 16)))
   unfolding pixel
   segment-shown =
-      switched (not (c .«display_on»)) (c .«static_on») (c .«duty_32») (λ row. lineBit ram (columnOf c n) (c .«start_line» + row))
+      switched (not (c .«display_on»)) (c .«static_on») (c .«duty_32») (λ row. lineBit ram (ramColumn c n) (c .«start_line» + row))
       ∙ rw (from-start 32, from-start 16)
 
   pub segment-dark : not (c .«display_on») ≡ true → segmentRows c ram n ≡ 0
@@ -134,11 +134,11 @@ module _ (c : Chip) (ram : List ℕ) (n : ℕ) where
     segment-lit static = segment-shown ∙ rw (on, static)
 
     module _ (ram-shown : c .«static_on» ≡ false) where
-      pub segment-lines : c .«duty_32» ≡ true → segmentRows c ram n ≡ turned ram (columnOf c n) (c .«start_line»)
-      segment-lines duty = segment-shown ∙ rw (on, ram-shown, duty) (lines-turned ram (columnOf c n) (c .«start_line»))
+      pub segment-lines : c .«duty_32» ≡ true → segmentRows c ram n ≡ turned ram (ramColumn c n) (c .«start_line»)
+      segment-lines duty = segment-shown ∙ rw (on, ram-shown, duty) (lines-turned ram (ramColumn c n) (c .«start_line»))
 
-      pub segment-upper : c .«duty_32» ≡ false → segmentRows c ram n ≡ turned ram (columnOf c n) (c .«start_line») % 2 ^ 16
-      segment-upper duty = segment-shown ∙ rw (on, ram-shown, duty) (upper-lines ram (columnOf c n) (c .«start_line»))
+      pub segment-upper : c .«duty_32» ≡ false → segmentRows c ram n ≡ turned ram (ramColumn c n) (c .«start_line») % 2 ^ 16
+      segment-upper duty = segment-shown ∙ rw (on, ram-shown, duty) (upper-lines ram (ramColumn c n) (c .«start_line»))
 
   -- a segment that its chip does not drive has no pixels, and one that it drives those of its rows
   pub no-segment : segments ≤ n → segmentPixels c ram n .pixels ≡ 0
@@ -152,4 +152,5 @@ module _ (c : Chip) (ram : List ℕ) (n : ℕ) where
 pub segment-numbers : SegmentNumbers
 unfolding segmentPixels
 segment-numbers c ram n =
-    rw (table-as (λ (s : Segment). verdict (s .number) 0) (segmentTable c ram n) (λ number at. refl) refl) (exactly-when (segmentTable c ram n) (verdict 0 0))
+    rw (table-as (λ (s : Segment). verdict (s .number) 0) (segmentTable c ram n) (λ number at. refl) refl)
+    (exactly-when (segmentTable c ram n) (verdict 0 0))

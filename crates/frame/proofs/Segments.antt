@@ -10,14 +10,14 @@ use borrow.Author.Tests.{le-leb, lt-leb, leb-true, leb-false}
 use Rattle.basics.specs.Choice.{if}
 use Rattle.basics.proofs.Tests.{tested, when}
 use Rattle.sed1520.specs.declared.registers.Chip.{Chip}
-use Rattle.frame.specs.Frame.{columnOf, lineBit, pixel, packedPixels, frameByte}
+use Rattle.frame.specs.Frame.{ramColumn, lineBit, pixel, packedPixels, frameByte}
 use Rattle.frame.proofs.Packing.{packed-same}
 
 -- a segment's column is one of the 80
-pub column-near : (c : Chip) (n : ℕ) → n < 80 → columnOf c n < 80
+pub column-near : (c : Chip) (n : ℕ) → n < 80 → ramColumn c n < 80
 column-near c n h = when (λ (k : ℕ). k < 80) (c .reverse) (λ _. omega arith) (λ _. omega arith)
 
--- whether a row of the eight from 8 r is hidden by the duty goes by r
+-- whether a row of band r is hidden by the duty goes by r
 hidden-row : (duty : Bool) (r i : ℕ) → i < 8 → (not duty && leb 16 (8 * r + i)) ≡ (not duty && leb 2 r)
 hidden-row true r i h = refl
 hidden-row false r i h =
@@ -40,7 +40,7 @@ module _ (c : Chip) (ram : List ℕ) (n r : ℕ) where
   hidden = not (c .«duty_32») && leb 2 r
 
   abbrev lines : ℕ → ℕ
-  lines = lineBit ram (columnOf c n)
+  lines = lineBit ram (ramColumn c n)
 
   pub segment-byte : frameByte c ram n r
       ≡ if (not (c .«display_on»)) 0 (if (c .«static_on») 255 (if hidden 0 (packedPixels lines (c .«start_line» + 8 * r) 8)))

@@ -7,24 +7,25 @@ ghost use mathlib.Core.Path.{_≡_};
 ghost use mathlib.Core.Bool.{_&&_, not};
 ghost use lib.Dec.{leb};
 ghost use lib.ListN.{length};
-ghost use Rattle.frame.specs.Frame.{frameBytes, columnOf, lineBit, packedPixels, frameByte, halfRow};
+ghost use Rattle.sed1520.specs.Memory.{ramLength};
+ghost use Rattle.frame.specs.Frame.{frameLength, ramColumn, lineBit, packedPixels, frameByte, halfBand};
 ghost use Rattle.frame.specs.Frame.{frameOf, frameSizesWrong, framed};
 ghost use Rattle.sed1520.specs.Chip.{columnStop};
 ghost use Rattle.sed1520.specs.Laws.{Fit};
 ghost use Rattle.basics.specs.Verdict.{result};
-ghost use Rattle.panel.specs.Panel.{panelOf, Whole};
+ghost use Rattle.panel.specs.Panel.{asPanel, Whole};
 use basics::verdict::Verdict;
 use panel::chips::IMAGE_BYTES;
 use sed1520::memory::index;
 use sed1520::registers::Chip;
 
-// A frame: four bytes of eight rows in each of 122 columns.
+// A frame: four bands of 122 bytes, one for each column.
 pub const FRAME_BYTES: usize = Chip::PANEL_WIDTH * 4;
 
 // The RAM column of a segment.
-pub(crate) fn column_of(chip: Chip, n: usize) -> usize
+pub(crate) fn ram_column(chip: Chip, n: usize) -> usize
     requires { ⌜ n < columnStop ⌝ }
-    ensures { λ r. ⌜ r ≡ columnOf chip n ⌝ }
+    ensures { λ r. ⌜ r ≡ ramColumn chip n ⌝ }
 {
     if chip.reverse { 79 - n } else { n }
 }
@@ -39,7 +40,7 @@ fn eight_lines(upper: u8, lower: u8, line: usize) -> u8
 
 // The eight pixels of a column from a RAM line on, out of the two pages that they lie in.
 fn lines_from(ram: &[u8], column: usize, line: usize) -> u8
-    requires { ⌜ length (now ram) ≡ 320 ⌝ }
+    requires { ⌜ length (now ram) ≡ ramLength ⌝ }
     requires { ⌜ column < columnStop ⌝ }
     requires { ⌜ line < 64 ⌝ }
     ensures { λ r. ⌜ r ≡ packedPixels (lineBit (now (ram .entry)) column) line 8 ⌝ }
@@ -50,14 +51,14 @@ fn lines_from(ram: &[u8], column: usize, line: usize) -> u8
     eight_lines(ram[upper], ram[lower], line)
 }
 
-// Whether duty 1/16 leaves the eight rows from 8 r dark.
-fn rows_dark(chip: Chip, r: usize) -> bool
+// Whether duty 1/16 leaves band r dark.
+fn band_dark(chip: Chip, r: usize) -> bool
     ensures { λ b. ⌜ b ≡ (not (chip .«duty_32») && leb 2 r) ⌝ }
 {
     if chip.duty_32 { false } else { 2 <= r }
 }
 
-// The byte of a segment in the eight rows from 8 r.
+// The byte of a segment in band r.
 fn segment_byte(chip: Chip, ram: &[u8], n: usize, r: usize) -> u8
     requires { ⌜ Fit chip (now ram) ⌝ }
     requires { ⌜ n < columnStop ⌝ }
@@ -70,19 +71,19 @@ fn segment_byte(chip: Chip, ram: &[u8], n: usize, r: usize) -> u8
     if chip.static_on {
         return 255;
     }
-    if rows_dark(chip, r) {
+    if band_dark(chip, r) {
         return 0;
     }
     let line = (chip.start_line as usize) + 8 * r;
-    lines_from(ram, column_of(chip, n), line)
+    lines_from(ram, ram_column(chip, n), line)
 }
 
-// A half in the eight rows from 8 r: a byte for each segment.
+// A half in band r: a byte for each segment.
 fn fill_half(chip: Chip, ram: &[u8], r: usize, half: &mut [u8])
     requires { ⌜ Fit chip (now ram) ⌝ }
     requires { ⌜ r < 4 ⌝ }
     requires { ⌜ length (now half) ≤ columnStop ⌝ }
-    ensures { λ _. ⌜ now (half .exit) ≡ halfRow (length (now (half .entry))) chip (now (ram .entry)) r ⌝ }
+    ensures { λ _. ⌜ now (half .exit) ≡ halfBand (length (now (half .entry))) chip (now (ram .entry)) r ⌝ }
 {
     let mut n = 0;
     while n < half.len() {
@@ -91,11 +92,11 @@ fn fill_half(chip: Chip, ram: &[u8], r: usize, half: &mut [u8])
     }
 }
 
-// The frame of chips in range, row by row: the left half, then the right one.
+// The frame of chips in range, band by band: the left half, then the right one.
 fn fill(left: Chip, right: Chip, ram: &[u8], frame: &mut [u8])
-    requires { ⌜ Whole (panelOf left right (now ram)) ⌝ }
-    requires { ⌜ length (now frame) ≡ frameBytes ⌝ }
-    ensures { λ _. ⌜ now (frame .exit) ≡ frameOf (panelOf left right (now (ram .entry))) ⌝ }
+    requires { ⌜ Whole (asPanel left right (now ram)) ⌝ }
+    requires { ⌜ length (now frame) ≡ frameLength ⌝ }
+    ensures { λ _. ⌜ now (frame .exit) ≡ frameOf (asPanel left right (now (ram .entry))) ⌝ }
 {
     let mut r = 0;
     while r < 4 {
@@ -120,7 +121,7 @@ fn sizes_wrong(ram: usize, frame: usize) -> bool
 
 // The frame that two chips and their image show, into a buffer of 488 bytes.
 pub fn frame(left: Chip, right: Chip, ram: &[u8], frame: &mut [u8]) -> Verdict
-    ensures { λ r. ⌜ result r (now (frame .exit)) ≡ framed (panelOf left right (now (ram .entry))) (now (frame .entry)) ⌝ }
+    ensures { λ r. ⌜ result r (now (frame .exit)) ≡ framed (asPanel left right (now (ram .entry))) (now (frame .entry)) ⌝ }
 {
     if sizes_wrong(ram.len(), frame.len()) {
         return Verdict::new(1, 0);

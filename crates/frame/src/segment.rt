@@ -2,9 +2,10 @@
 ghost use Prim.Native.Nat.{_+_, _*_, _/_, _%_, _^_, _<_};
 ghost use mathlib.Core.Path.{_≡_};
 ghost use lib.ListN.{length};
+ghost use Rattle.sed1520.specs.Memory.{ramLength};
 ghost use Rattle.frame.specs.Frame.{segments, lineBit, packedPixels, segmentRows, segmentPixels};
 ghost use Rattle.sed1520.specs.Chip.{columnStop};
-use crate::column_of;
+use crate::ram_column;
 use sed1520::memory::index;
 use sed1520::registers::Chip;
 
@@ -20,7 +21,7 @@ fn four_bytes(first: u8, second: u8, third: u8, fourth: u8) -> u32
 
 // The four pages of a column as one number, line 0 lowest.
 fn column_lines(ram: &[u8], column: usize) -> u32
-    requires { ⌜ length (now ram) ≡ 320 ⌝ }
+    requires { ⌜ length (now ram) ≡ ramLength ⌝ }
     requires { ⌜ column < columnStop ⌝ }
     ensures { λ r. ⌜ r ≡ packedPixels (lineBit (now (ram .entry)) column) 0 32 ⌝ }
 {
@@ -41,7 +42,7 @@ fn turned(lines: u32, line: u8) -> u32
 
 // The 32 pixels of a segment that the chip drives, row 0 lowest.
 fn segment_rows(chip: Chip, ram: &[u8], n: usize) -> u32
-    requires { ⌜ length (now ram) ≡ 320 ⌝ }
+    requires { ⌜ length (now ram) ≡ ramLength ⌝ }
     requires { ⌜ n < segments ⌝ }
     ensures { λ r. ⌜ r ≡ segmentRows chip (now (ram .entry)) n ⌝ }
 {
@@ -51,7 +52,7 @@ fn segment_rows(chip: Chip, ram: &[u8], n: usize) -> u32
     if chip.static_on {
         return 0xFFFF_FFFF;
     }
-    let shown = turned(column_lines(ram, column_of(chip, n)), chip.start_line);
+    let shown = turned(column_lines(ram, ram_column(chip, n)), chip.start_line);
     if chip.duty_32 {
         shown
     } else {
@@ -65,8 +66,8 @@ pub struct Segment {
     pub pixels: u32,
 }
 
-// The pixels of a segment: number 1 for RAM that is not 320 bytes or a segment that the chip does not drive, 2 for a chip out
-// of range.
+// The pixels of a segment: number 1 for RAM that is not 320 bytes or a segment that the chip does not drive, 2 for a chip
+// out of range.
 pub fn segment_pixels(chip: Chip, ram: &[u8], n: usize) -> Segment
     ensures { λ r. ⌜ r ≡ segmentPixels chip (now (ram .entry)) n ⌝ }
 {

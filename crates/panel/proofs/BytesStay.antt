@@ -7,8 +7,8 @@ use mathlib.Core.List.{List}
 use lib.Dec.{eqb}
 use Rattle.basics.specs.Choice.{if}
 use Rattle.basics.specs.Halves.{partPut}
-use Rattle.basics.specs.Run.{Turn}
-use Rattle.basics.proofs.Run.{AlikeTurns, run-alike}
+use Rattle.basics.specs.Run.{Step}
+use Rattle.basics.proofs.Run.{AlikeSteps, run-alike}
 use Rattle.basics.proofs.Tests.{when, choice-of}
 use Rattle.sed1520.specs.Chip.{staled, withLatch}
 use Rattle.sed1520.specs.Cycle.{Reply, Outcome}
@@ -16,17 +16,17 @@ use Rattle.sed1520.specs.LatchPromises.{unmarkedReply, setsPageOrWrites}
 use Rattle.sed1520.specs.declared.registers.Chip.{Chip}
 use Rattle.sed1520.specs.declared.registers.ReadLatch.the-variants.{Stale}
 use Rattle.sed1520.specs.declared.bus.Record.{Record}
-use Rattle.sed1520.proofs.Unmarked.{replyOf, unmarkedOutcome, Same, SameChips, cycle-same, write-kept, a-write}
-use Rattle.panel.specs.LatchPromises.{unmarked, MarksAlone, formerTurn, BytesStay}
-use Rattle.panel.specs.Panel.{Panel, panelOf, put, chipAt, ramAt, outcomeOf, stepped, panelTurn}
+use Rattle.sed1520.proofs.Unmarked.{asReply, unmarkedOutcome, Same, SameChips, cycle-same, write-kept, a-write}
+use Rattle.panel.specs.LatchPromises.{unmarked, MarksAlone, formerStep, BytesStay}
+use Rattle.panel.specs.Panel.{Panel, asPanel, put, chipAt, ramAt, outcomeOf, stepped, panelStep}
 
 -- a chip and its bytes put in place
 put-unmarked : (p : Panel) (k : ℕ) (c : Chip) (bytes : List ℕ) → unmarked (put p k c bytes) ≡ put (unmarked p) k (staled c) bytes
 put-unmarked p k c bytes = side (eqb k 0)
   where
     side : (t : Bool) → let ram = partPut 320 k (p .ram) bytes in
-        unmarked (panelOf (if t c (p .left)) (if t (p .right) c) ram)
-        ≡ panelOf (if t (staled c) (staled (p .left))) (if t (staled (p .right)) (staled c)) ram
+        unmarked (asPanel (if t c (p .left)) (if t (p .right) c) ram)
+        ≡ asPanel (if t (staled c) (staled (p .left))) (if t (staled (p .right)) (staled c)) ram
     side true = refl
     side false = refl
 
@@ -46,19 +46,19 @@ module _ (p : Panel) (r : Record) where
       ∙ sym (put-unmarked p (r .chip) (marked .answer .chip) (marked .ram))
 
 -- two panels that are the same but for the marks, and a step that differs from the cycle in marks alone
-module _ (step : Panel → Record → Turn Panel Reply) (alone : MarksAlone step) where
-  turns-alike : (p q : Panel) → unmarked p ≡ unmarked q → (r : Record)
-      → AlikeTurns step panelTurn (λ s t. unmarked s ≡ unmarked t) unmarkedReply p q r
-  turns-alike p q like r =
+module _ (step : Panel → Record → Step Panel Reply) (alone : MarksAlone step) where
+  steps-alike : (p q : Panel) → unmarked p ≡ unmarked q → (r : Record)
+      → AlikeSteps step panelStep (λ s t. unmarked s ≡ unmarked t) unmarkedReply p q r
+  steps-alike p q like r =
       let outcomes = sym (outcome-same p r) ∙ ap (λ (s : Panel). unmarkedOutcome (outcomeOf s r)) like ∙ outcome-same q r in
       let panels = sym (stepped-same p r) ∙ ap (λ (s : Panel). unmarked (stepped s r)) like ∙ stepped-same q r in
       record {
         number = alone .number p r ∙ ap (λ (o : Outcome). o .answer .number) outcomes;
-        answer = alone .answer p r ∙ ap replyOf outcomes;
+        answer = alone .answer p r ∙ ap asReply outcomes;
         next = alone .next p r ∙ panels;
       }
 
-former-next : (p : Panel) (r : Record) → unmarked (formerTurn p r .next) ≡ unmarked (stepped p r)
+former-next : (p : Panel) (r : Record) → unmarked (formerStep p r .next) ≡ unmarked (stepped p r)
 unfolding stepped outcomeOf
 former-next p r =
     let c = chipAt p (r .chip) in
@@ -76,7 +76,7 @@ pub bytes-stay : BytesStay
 bytes-stay =
     record {
       any-step = λ step alone p q like rs.
-          let runs = run-alike step panelTurn (λ s t. unmarked s ≡ unmarked t) unmarkedReply (turns-alike step alone) rs p q like in
+          let runs = run-alike step panelStep (λ s t. unmarked s ≡ unmarked t) unmarkedReply (steps-alike step alone) rs p q like in
           record { number = runs .number; answers = runs .answers; state = runs .state };
       former = record { number = λ p r. refl; answer = λ p r. refl; next = former-next };
     }

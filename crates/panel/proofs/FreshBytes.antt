@@ -11,7 +11,7 @@ use Rattle.sed1520.specs.LatchPromises.{FreshStands}
 use Rattle.sed1520.specs.declared.bus.Record.{Record}
 use Rattle.sed1520.proofs.FreshBytes.{not-fresh, cycle-stands, fresh-answer}
 use Rattle.panel.specs.LatchPromises.{EveryFreshByte}
-use Rattle.panel.specs.Panel.{Panel, chipAt, ramAt, outcomeOf, stepped, panelTurn}
+use Rattle.panel.specs.Panel.{Panel, chipAt, ramAt, outcomeOf, stepped, panelStep}
 use Rattle.panel.proofs.PanelLaws.{every-record-apart}
 
 -- on a panel: the chip that the record names by its cycle, the other one as it was
@@ -39,6 +39,6 @@ unfolding outcomeOf
 every-fresh-byte =
     record {
       begun = λ c ram a stale b e. absurd (not-fresh (sym stale ∙ e));
-      kept = λ p image k stands rs. run-keeps panelTurn (Holds k) (λ q r holds _. stepped-holds k q r holds) rs p (image, stands) .1;
+      kept = λ p image k stands rs. run-keeps panelStep (Holds k) (λ q r holds _. stepped-holds k q r holds) rs p (image, stands) .1;
       answered = λ p r stands one. stands _ (fresh-answer (chipAt p (r .chip)) (ramAt p (r .chip)) r one);
     }

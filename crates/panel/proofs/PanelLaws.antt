@@ -10,7 +10,7 @@ use Rattle.basics.proofs.Halves.{part-length, same-back, put-own, put-other, pu
 use Rattle.basics.proofs.Run.{run-keeps}
 use Rattle.basics.proofs.Tests.{when, own-choice, other-choice}
 use Rattle.sed1520.specs.Chip.{inRange}
-use Rattle.panel.specs.Panel.{Panel, panelOf, chipAt, ramAt, outcomeOf, stepped, panelTurn, after, Whole}
+use Rattle.panel.specs.Panel.{Panel, asPanel, chipAt, ramAt, outcomeOf, stepped, panelStep, after, Whole}
 use Rattle.panel.specs.Promises.{EveryHalfWhole, Apart, EveryRecordApart}
 use Rattle.sed1520.specs.declared.registers.Chip.{Chip}
 use Rattle.sed1520.specs.declared.bus.Record.{Record}
@@ -47,7 +47,7 @@ refused-record p r h =
     let same = cycle-keeps (chipAt p (r .chip)) (ramAt p (r .chip)) r .refused h in
     rw (same, same-back 320 (r .chip) (p .ram)) (put-back (eqb (r .chip) 0))
   where
-    put-back : (t : Bool) → panelOf (if t (if t (p .left) (p .right)) (p .left)) (if t (p .right) (if t (p .left) (p .right))) (p .ram) ≡ p
+    put-back : (t : Bool) → asPanel (if t (if t (p .left) (p .right)) (p .left)) (if t (p .right) (if t (p .left) (p .right))) (p .ram) ≡ p
     put-back true = refl
     put-back false = refl
 
@@ -63,6 +63,6 @@ stepped-whole p r whole =
       image = every-record-apart p (whole .image) r .image;
     }
 
--- so they do after any records
+-- after any records, chips in range are in range still, and the image has its length
 pub after-whole : (rs : List Record) (p : Panel) → Whole p → Whole (after p rs)
-after-whole = run-keeps panelTurn Whole (λ p r whole _. stepped-whole p r whole)
+after-whole = run-keeps panelStep Whole (λ p r whole _. stepped-whole p r whole)

@@ -5,33 +5,33 @@ use mathlib.Core.Path.{_≡_}
 use mathlib.Core.List.{List, map}
 use lib.ListN.{length}
 use Rattle.basics.specs.Choice.{if}
-use Rattle.basics.specs.Run.{Turn, Run, runOf}
+use Rattle.basics.specs.Run.{Step, Run, runOf}
 use Rattle.sed1520.specs.Chip.{staled, withLatch}
-use Rattle.sed1520.specs.Cycle.{Reply, turnOf}
+use Rattle.sed1520.specs.Cycle.{Reply, asStep}
 use Rattle.sed1520.specs.LatchPromises.{Stands, FreshStands, unmarkedReply, setsPageOrWrites}
 use Rattle.sed1520.specs.declared.registers.Chip.{Chip}
 use Rattle.sed1520.specs.declared.registers.ReadLatch.the-variants.{Stale}
 use Rattle.sed1520.specs.declared.bus.Record.{Record}
-use Rattle.panel.specs.Panel.{Panel, panelOf, chipAt, ramAt, put, outcomeOf, panelTurn, panelRun, after}
+use Rattle.panel.specs.Panel.{imageLength, Panel, asPanel, chipAt, ramAt, put, outcomeOf, panelStep, panelRun, after}
 
 -- `FreshStands` holds of a chip with a stale latch, as a fresh chip has; where it holds of chip k it does after any records on the whole image; and
--- where it holds of the chip that is read, an answer of kind 1 is a byte that stands so
+-- where it holds of the chip that is read, an answer of kind 1 is a byte that stands in RAM as `Stands` says
 pub record EveryFreshByte : Type 0 where
   pub begun : (c : Chip) (ram : List ℕ) (a : ℕ) → c .latch ≡ Stale a → FreshStands c ram
-  pub kept : (p : Panel) → length (p .ram) ≡ 640 → (k : ℕ) → FreshStands (chipAt p k) (ramAt p k) → (rs : List Record)
+  pub kept : (p : Panel) → length (p .ram) ≡ imageLength → (k : ℕ) → FreshStands (chipAt p k) (ramAt p k) → (rs : List Record)
       → FreshStands (chipAt (after p rs) k) (ramAt (after p rs) k)
   pub answered : (p : Panel) (r : Record) → FreshStands (chipAt p (r .chip)) (ramAt p (r .chip)) → outcomeOf p r .answer .kind ≡ 1
       → Stands (chipAt p (r .chip)) (ramAt p (r .chip)) (outcomeOf p r .answer .byte)
 
 -- a panel with both latches made stale: what it holds but for their marks
 abbrev pub unmarked : Panel → Panel
-unmarked p = panelOf (staled (p .left)) (staled (p .right)) (p .ram)
+unmarked p = asPanel (staled (p .left)) (staled (p .right)) (p .ram)
 
 -- a step that gives each record the number and the reply that the cycle gives, and leads to the same panel, but for the marks
-pub record MarksAlone (step : Panel → Record → Turn Panel Reply) : Type 0 where
-  pub number : (p : Panel) (r : Record) → step p r .number ≡ panelTurn p r .number
-  pub answer : (p : Panel) (r : Record) → unmarkedReply (step p r .answer) ≡ unmarkedReply (panelTurn p r .answer)
-  pub next : (p : Panel) (r : Record) → unmarked (step p r .next) ≡ unmarked (panelTurn p r .next)
+pub record MarksAlone (step : Panel → Record → Step Panel Reply) : Type 0 where
+  pub number : (p : Panel) (r : Record) → step p r .number ≡ panelStep p r .number
+  pub answer : (p : Panel) (r : Record) → unmarkedReply (step p r .answer) ≡ unmarkedReply (panelStep p r .answer)
+  pub next : (p : Panel) (r : Record) → unmarked (step p r .next) ≡ unmarked (panelStep p r .next)
 
 -- two runs with the same number, the same replies and the same panel at the end, but for the marks
 pub record SameButMarks (one other : Run Panel Reply) : Type 0 where
@@ -40,15 +40,15 @@ pub record SameButMarks (one other : Run Panel Reply) : Type 0 where
   pub state : unmarked (one .state) ≡ unmarked (other .state)
 
 -- a record given to the panel by the rule without request C-12: a page set or a data write leaves the latch as it was
-abbrev pub formerTurn : Panel → Record → Turn Panel Reply
-formerTurn p r =
+abbrev pub formerStep : Panel → Record → Step Panel Reply
+formerStep p r =
     let o = outcomeOf p r in
     let kept = withLatch (chipAt p (r .chip) .latch) (o .answer .chip) in
-    turnOf o (put p (r .chip) (if (setsPageOrWrites r) kept (o .answer .chip)) (o .ram))
+    asStep o (put p (r .chip) (if (setsPageOrWrites r) kept (o .answer .chip)) (o .ram))
 
 -- whatever marks the latches begin with and whatever marks a step leaves, all but marks and kinds 1 and 2 is as the cycle has it; and the rule
 -- without request C-12 is such a step, so with the request no byte that is answered changes, none of RAM and no register but the mark
 pub record BytesStay : Type 0 where
-  pub any-step : (step : Panel → Record → Turn Panel Reply) → MarksAlone step → (p q : Panel) → unmarked p ≡ unmarked q → (rs : List Record)
+  pub any-step : (step : Panel → Record → Step Panel Reply) → MarksAlone step → (p q : Panel) → unmarked p ≡ unmarked q → (rs : List Record)
       → SameButMarks (runOf step p rs) (panelRun q rs)
-  pub former : MarksAlone formerTurn
+  pub former : MarksAlone formerStep

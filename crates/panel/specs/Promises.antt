@@ -5,19 +5,20 @@ use mathlib.Core.Bool.{Bool, true, _&&_, _||_}
 use mathlib.Core.List.{List}
 use lib.Dec.{leb, eqb}
 use lib.ListN.{length, take, drop}
+use Rattle.sed1520.specs.Memory.{ramLength}
 use Rattle.sed1520.specs.Chip.{columnStop}
-use Rattle.sed1520.specs.ChipRecord.{recordRight}
+use Rattle.sed1520.specs.ChipBytes.{chipLength, bytesPass}
 use Rattle.sed1520.specs.Cycle.{cycleOf}
-use Rattle.sed1520.specs.RecordStep.{Acted}
+use Rattle.sed1520.specs.BytesStep.{Acted}
 use Rattle.sed1520.specs.declared.registers.Chip.{Chip}
 use Rattle.sed1520.specs.declared.bus.Record.{Record}
-use Rattle.panel.specs.Chips.{chipsBytes, chipsOf, chipsIn, panelIn, RecordsFit}
-use Rattle.panel.specs.Panel.{Panel, chipAt, ramAt, put, outcomeOf, stepped, after, Whole}
-use Rattle.panel.specs.Step.{stepRecords}
+use Rattle.panel.specs.Chips.{chipsLength, chipsBytes, asChips, chipsIn, panelIn, BothPass}
+use Rattle.panel.specs.Panel.{imageLength, Panel, chipAt, ramAt, put, outcomeOf, stepped, after, Whole}
+use Rattle.panel.specs.Step.{stepChips}
 
 -- each chip has 320 bytes of an image of 640
 abbrev pub EveryHalfWhole : Type 0
-EveryHalfWhole = (p : Panel) → length (p .ram) ≡ 640 → (k : ℕ) → length (ramAt p k) ≡ 320
+EveryHalfWhole = (p : Panel) → length (p .ram) ≡ imageLength → (k : ℕ) → length (ramAt p k) ≡ ramLength
 
 -- two chips on one bus: the outcome is that of the cycle of the record's own chip, with its bytes; the panel has that chip and its bytes as
 -- its cycle leaves them, the other chip and its bytes as they were
@@ -28,35 +29,35 @@ pub record Apart (p : Panel) (r : Record) : Type 0 where
   pub own-ram : ramAt (stepped p r) (r .chip) ≡ outcomeOf p r .ram
   pub other-chip : (k : ℕ) → (eqb k 0 ≡ eqb (r .chip) 0 → ⊥) → chipAt (stepped p r) k ≡ chipAt p k
   pub other-ram : (k : ℕ) → (eqb k 0 ≡ eqb (r .chip) 0 → ⊥) → ramAt (stepped p r) k ≡ ramAt p k
-  pub image : length (stepped p r .ram) ≡ 640
+  pub image : length (stepped p r .ram) ≡ imageLength
 
--- for every record on every panel of 640 bytes
+-- every record on every panel of 640 bytes leaves the two chips as `Apart` says
 abbrev pub EveryRecordApart : Type 0
-EveryRecordApart = (p : Panel) → length (p .ram) ≡ 640 → (r : Record) → Apart p r
+EveryRecordApart = (p : Panel) → length (p .ram) ≡ imageLength → (r : Record) → Apart p r
 
 -- the bytes of two chips: each way undoes the other, for bytes that number 2 lets pass
 pub record TwoChipsUndo : Type 0 where
-  pub there : (left right : Chip) → chipsIn (chipsBytes left right) ≡ chipsOf left right
-  pub back : (chips : List ℕ) → length chips ≡ 24 → recordRight (take 12 chips) ≡ true → recordRight (drop 12 chips) ≡ true
+  pub there : (left right : Chip) → chipsIn (chipsBytes left right) ≡ asChips left right
+  pub back : (chips : List ℕ) → length chips ≡ chipsLength → bytesPass (take chipLength chips) ≡ true → bytesPass (drop chipLength chips) ≡ true
       → chipsBytes (chipsIn chips .left) (chipsIn chips .right) ≡ chips
 
--- what a step over chip records gives and leaves is what the cycle of the chip named gives and leaves on the panel; and the records pass again
+-- what a step over the chips' bytes gives and leaves is what the cycle of the chip named gives and leaves on the panel; and the bytes pass again
 pub record StepsPanel (p : Panel) (r : Record) (s : Acted) : Type 0 where
   pub number : s .answer .number ≡ outcomeOf p r .answer .number
   pub kind : s .answer .kind ≡ outcomeOf p r .answer .kind
   pub byte : s .answer .byte ≡ outcomeOf p r .answer .byte
   pub panel : panelIn (s .chips) (s .ram) ≡ stepped p r
-  pub fit : RecordsFit (s .chips) (s .ram)
+  pub fit : BothPass (s .chips) (s .ram)
 
--- on every two records that number 2 lets pass over the whole image
+-- a step over bytes of both chips that number 2 lets pass, with the whole image, is a step of the panel as `StepsPanel` says
 abbrev pub EveryRecordStep : Type 0
-EveryRecordStep = (r : Record) (chips ram : List ℕ) → RecordsFit chips ram → StepsPanel (panelIn chips ram) r (stepRecords r chips ram)
+EveryRecordStep = (r : Record) (chips ram : List ℕ) → BothPass chips ram → StepsPanel (panelIn chips ram) r (stepChips r chips ram)
 
--- the numbers that a record may be given: done, 4 to 8, or 14
+-- whether a number is one that a record may be given: 0 for done, 4 to 8, or 14
 abbrev pub isRecordNumber : ℕ → Bool
 isRecordNumber n = eqb n 0 || ((leb 4 n && leb n 8) || eqb n 14)
 
--- every record is given one of these, where both chips are in range over the whole image
+-- every record is given one of the numbers of `isRecordNumber`, where both chips are in range over the whole image
 abbrev pub EveryRecordNumber : Type 0
 EveryRecordNumber = (p : Panel) → Whole p → (r : Record) → isRecordNumber (outcomeOf p r .answer .number) ≡ true
 

@@ -1,10 +1,10 @@
 // Both chips, by value and as 24 bytes.
 ghost use mathlib.Core.Path.{_≡_};
 ghost use Rattle.panel.specs.Chips.{chipsBytes, chipsIn};
-use sed1520::chip_record::CHIP_BYTES;
-use sed1520::chip_record::chip_in;
-use sed1520::chip_record::chip_out;
-use sed1520::chip_record::no_chip;
+use sed1520::chip_bytes::CHIP_BYTES;
+use sed1520::chip_bytes::chip_in;
+use sed1520::chip_bytes::chip_out;
+use sed1520::chip_bytes::no_chip;
 use sed1520::registers::Chip;
 
 // The bytes of both chips.
@@ -14,7 +14,7 @@ pub const CHIPS_BYTES: usize = 2 * CHIP_BYTES;
 pub const IMAGE_BYTES: usize = 2 * Chip::RAM_WIDTH;
 
 // The bytes of both chips, left before right.
-pub type Records = [u8; CHIPS_BYTES];
+pub type BothChips = [u8; CHIPS_BYTES];
 
 // Both chips.
 pub struct Chips {
@@ -24,27 +24,27 @@ pub struct Chips {
 
 // The chips of 24 bytes. Bytes that number 2 refuses give a chip that it refuses; so does any other length than 24, which is
 // number 1's to refuse before. A chip so given is for testing and not for writing back.
-pub fn chips_in(records: &[u8]) -> Chips
-    ensures { λ r. ⌜ r ≡ chipsIn (now (records .entry)) ⌝ }
+pub fn chips_in(bytes: &[u8]) -> Chips
+    ensures { λ r. ⌜ r ≡ chipsIn (now (bytes .entry)) ⌝ }
 {
-    if records.len() != CHIPS_BYTES {
+    if bytes.len() != CHIPS_BYTES {
         return Chips {
             left: no_chip(),
             right: no_chip(),
         };
     }
     Chips {
-        left: chip_in(&records[..CHIP_BYTES]),
-        right: chip_in(&records[CHIP_BYTES..]),
+        left: chip_in(&bytes[..CHIP_BYTES]),
+        right: chip_in(&bytes[CHIP_BYTES..]),
     }
 }
 
 // Two chips as bytes, left before right.
-pub fn chips_bytes(left: Chip, right: Chip) -> Records
+pub fn chips_bytes(left: Chip, right: Chip) -> BothChips
     ensures { λ r. ⌜ r ≡ chipsBytes left right ⌝ }
 {
-    let mut records = [0u8; CHIPS_BYTES];
-    chip_out(left, &mut records[..CHIP_BYTES]);
-    chip_out(right, &mut records[CHIP_BYTES..]);
-    records
+    let mut bytes = [0u8; CHIPS_BYTES];
+    chip_out(left, &mut bytes[..CHIP_BYTES]);
+    chip_out(right, &mut bytes[CHIP_BYTES..]);
+    bytes
 }

@@ -5,7 +5,7 @@ use mathlib.Core.Path.{_≡_}
 use mathlib.Core.List.{List}
 use Rattle.trace.specs.Replay.{InPlace, replayInPlace}
 use Rattle.trace.proofs.Bounds.{Few, replay-bounded, in-place-bounded}
-use Rattle.trace.specs.declared.Ran.{Ran}
+use Rattle.trace.specs.declared.Tally.{Tally}
 use Rattle.frame.proofs.FrameCases.{places-small}
 use Rattle.repaint.proofs.RepaintCases as repaint
 use Rattle.visible.proofs.ChangesCases as changes
@@ -23,7 +23,7 @@ small few =
       differing-small = omega (arith, few .differing-few);
     }
 
-pub packable : (chips ram trace answers : List ℕ) (i : InPlace Ran) → i ≡ replayInPlace chips ram trace answers
+pub packable : (chips ram trace answers : List ℕ) (i : InPlace Tally) → i ≡ replayInPlace chips ram trace answers
     → (i .answer .place < 65536) × ((i .answer .compared < 65536) × (i .answer .differing < 65536))
 packable chips ram trace answers i e =
     let few = small (in-place-bounded chips ram trace answers) in

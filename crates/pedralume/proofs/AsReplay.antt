@@ -15,7 +15,7 @@ use Rattle.sed1520.specs.Records.{wholeRecords}
 use Rattle.panel.specs.Panel.{Panel}
 use Rattle.panel.specs.Trace.{traceSizesWrong}
 use Rattle.trace.specs.Replay.{ReplayOutcome, ended, sizesWrong, replayOf}
-use Rattle.visible.specs.Changes.{Entry, entriesOf, entriesBytes, changesOf}
+use Rattle.visible.specs.Changes.{Entry, allEntries, entriesBytes, changesOf}
 use Rattle.pedralume.specs.AsReplay.{EveryCallAsReplay}
 
 -- room for the answers leaves the sizes that the list of changes looks at
@@ -24,7 +24,7 @@ same-sizes trace ram answers room = rw (le-ltb answers (2 * (trace / 4)) room)
 
 module _ (p : Panel) (trace answers buffer : List ℕ) (room : 2 * (length trace / 4) ≤ length answers) where
   abbrev entries : List Entry
-  entries = entriesOf p (wholeRecords trace)
+  entries = allEntries p (wholeRecords trace)
 
   -- what the list of changes gives where a replay comes to an outcome
   abbrev givenBy : ReplayOutcome → Result Verdict (List ℕ)
@@ -49,7 +49,7 @@ pub every-call-as-replay : EveryCallAsReplay
 every-call-as-replay p trace answers buffer room =
     let given = given-by-replay p trace answers buffer room in
     let number = replayOf p trace answers .answer .number in
-    let needed = 8 * length (entriesOf p (wholeRecords trace)) in
+    let needed = 8 * length (allEntries p (wholeRecords trace)) in
     record {
       refused = λ h. given ∙ rw (ne-eqb number 0 h);
       short = λ z h. given ∙ rw (eq-eqb number 0 z, lt-ltb (length buffer) needed h);

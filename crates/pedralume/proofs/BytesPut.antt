@@ -7,7 +7,7 @@ use lib.ListN.{length, take, drop, set, length-append}
 use lib.Seq.{take-at, sets, sets-eq, drop-drop}
 use Rattle.basics.specs.Bytes.{wordBytes}
 use Rattle.basics.proofs.Filling.{Begun, begun-first, still}
-use Rattle.pedralume.specs.FeedRecord.{putWord}
+use Rattle.pedralume.specs.FeedBytes.{putWord}
 
 pub four-put : (l : List ℕ) (at a b c d : ℕ) → at + 4 ≤ length l
     → set (set (set (set l at a) (at + 1) b) (at + 2) c) (at + 3) d ≡ take at l ++ ((a ∷ b ∷ c ∷ d ∷ []) ++ drop (at + 4) l)

@@ -10,9 +10,9 @@ use borrow.Author.Tests.{eqb-true, eqb-false, not-true, not-false}
 use Rattle.basics.specs.Table.{First}
 use Rattle.basics.specs.Verdict.{Result}
 use Rattle.sed1520.specs.Chip.{inRange}
-use Rattle.sed1520.specs.ChipRecord.{recordRight}
+use Rattle.sed1520.specs.ChipBytes.{bytesPass}
 use Rattle.sed1520.specs.declared.registers.Chip.{Chip}
-use Rattle.panel.specs.Panel.{panelOf}
+use Rattle.panel.specs.Panel.{asPanel}
 use Rattle.panel.proofs.TwoChips.{left-passes, right-passes}
 use Rattle.frame.specs.Frame.{framed}
 use Rattle.repaint.specs.Repaint.{repaintOf}
@@ -49,12 +49,12 @@ unfolding framed repaintOf changesOf
 calls-refuse =
     record {
       frame =
-          λ chips ram buffer. refuses _ chips buffer (λ l r. packedFilled (framed (panelOf l r ram) buffer))
+          λ chips ram buffer. refuses _ chips buffer (λ l r. packedFilled (framed (asPanel l r ram) buffer))
           (λ l r e. rw e) (λ l r s out. rw (s, out)) (λ l r s within out. rw (s, within, out));
       repaint =
           λ chips picture buffer. refuses _ chips buffer (λ l r. packedFilled (repaintOf l r picture buffer))
           (λ l r e. rw e) (λ l r s out. rw (s, out)) (λ l r s within out. rw (s, within, out));
       changes =
-          λ chips ram trace buffer. refuses _ chips buffer (λ l r. packedFilled (changesOf (panelOf l r ram) trace buffer))
+          λ chips ram trace buffer. refuses _ chips buffer (λ l r. packedFilled (changesOf (asPanel l r ram) trace buffer))
           (λ l r e. rw e) (λ l r s out. rw (s, out)) (λ l r s within out. rw (s, within, out));
     }

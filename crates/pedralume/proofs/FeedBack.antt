@@ -11,7 +11,7 @@ use lib.Seq.{drop-cons}
 use borrow.Author.Tests.{eqb-true}
 use Rattle.basics.proofs.Tests.{tested, both}
 use Rattle.basics.specs.Bytes.{wordBytes}
-use Rattle.pedralume.specs.FeedRecord.{wordOf, wordAt, progressBytes, marksRight, progressIn}
+use Rattle.pedralume.specs.FeedBytes.{asWord, wordAt, progressBytes, marksRight, progressIn}
 use Rattle.pedralume.specs.FeedPromises.{BytesFit}
 
 -- a list spelled out by its elements
@@ -25,9 +25,9 @@ spelled-out i zero l h = drop-of-length-le l {i = i} (omega arith)
 spelled-out i (suc n) l h = drop-cons l i 0 (omega arith) ∙ rw (spelled-out (suc i) n l (omega arith))
 
 -- four bytes are those of their number
-of-word : (a b c d : ℕ) → a < 256 → b < 256 → c < 256 → d < 256 → wordBytes (wordOf a b c d) ≡ a ∷ b ∷ c ∷ d ∷ []
+of-word : (a b c d : ℕ) → a < 256 → b < 256 → c < 256 → d < 256 → wordBytes (asWord a b c d) ≡ a ∷ b ∷ c ∷ d ∷ []
 of-word a b c d ha hb hc hd =
-    let n = wordOf a b c d in
+    let n = asWord a b c d in
     let first : n % 256 ≡ a = omega arith in
     let high : n / 256 ≡ b + 256 * c + 65536 * d = omega arith in
     let second : (b + 256 * c + 65536 * d) % 256 ≡ b = omega arith in
@@ -37,7 +37,7 @@ of-word a b c d ha hb hc hd =
     rw (first, high, second, higher, third, fourth)
 
 -- each is 0 where their number is
-no-word : (a b c d : ℕ) → wordOf a b c d ≡ 0 → (a ≡ 0) × ((b ≡ 0) × ((c ≡ 0) × (d ≡ 0)))
+no-word : (a b c d : ℕ) → asWord a b c d ≡ 0 → (a ≡ 0) × ((b ≡ 0) × ((c ≡ 0) × (d ≡ 0)))
 no-word a b c d e = (omega arith, (omega arith, (omega arith, omega arith)))
 
 -- eight bytes with four words behind them, each replaced

@@ -1,4 +1,4 @@
--- The feed's calls past the test of the record's length.
+-- The feed's calls past the test of the length of the feed's bytes.
 use Prim.Native.Nat.{ℕ, _-_}
 use native.Mathlib.Omega.{arith}
 use mathlib.Core.Path.{_≡_, ap, _∙_}
@@ -16,8 +16,8 @@ use Rattle.trace.specs.FeedInPlace.{feedIn, partInPlace}
 use Rattle.trace.specs.declared.progress.Progress.{Progress}
 use Rattle.trace.specs.declared.feed.Fed.{Fed}
 use Rattle.trace.specs.declared.feed.FedInPlace.{FedInPlace}
-use Rattle.pedralume.specs.FeedRecord.{progressIn, progressBytes}
-use Rattle.pedralume.specs.FeedCall.{feedPacked, toldPacked, keptOr, openCall, partCall, closeCall}
+use Rattle.pedralume.specs.FeedBytes.{progressIn, progressBytes}
+use Rattle.pedralume.specs.FeedCall.{feedPacked, tallyPacked, keptOr, openCall, partCall, closeCall}
 
 -- the bytes behind the chips, as a slice lends them, and put back
 abbrev pub behind : List ℕ → List ℕ
@@ -35,24 +35,32 @@ module _ (feed ram part answers : List ℕ) where
   part-length h = rw (ne-eqb (length feed) 48 h)
 
   -- what a part leaves, from what it gave over the chips
-  abbrev pub inPlaceOf : Progress → InPlace FedInPlace → InPlace ℕ
-  inPlaceOf t i =
-      let r = i .answer .ran in
-      inPlace (toldPacked r) (i .lent .state ++ keptOr (t .ending) (r .number) (drop 24 feed) (i .answer .progress)) (i .lent .ram) (i .lent .answers)
+  abbrev pub inPlaceCall : Progress → InPlace FedInPlace → InPlace ℕ
+  inPlaceCall t i =
+      let r = i .answer .tally in
+      inPlace (tallyPacked r) (i .lent .state ++ keptOr (t .ending) (r .number) (drop 24 feed) (i .answer .progress)) (i .lent .ram)
+      (i .lent .answers)
 
   module _ (h : length feed ≡ 48) (t : Progress) where
     pub part-whole : t ≡ progressIn (drop 24 feed) → (i : InPlace FedInPlace) → i ≡ partInPlace (take 24 feed) t ram part answers
-        → inPlaceOf t i ≡ partCall feed ram part answers
+        → inPlaceCall t i ≡ partCall feed ram part answers
     unfolding partCall
     part-whole read i went = rw (eq-eqb (length feed) 48 h, went, read)
 
     pub part-done : t ≡ progressIn (behind feed) → (i : InPlace FedInPlace) → i ≡ partInPlace (take 24 feed) t ram part answers
         → length (i .lent .state) ≡ 24 → let whole = i .lent .state ++ drop 24 feed in (back : List ℕ)
-        → back ≡ keptOr (t .ending) (i .answer .ran .number) (behind whole) (i .answer .progress)
-        → inPlace (toldPacked (i .answer .ran)) (putBehind whole back) (i .lent .ram) (i .lent .answers) ≡ partCall feed ram part answers
+        → back ≡ keptOr (t .ending) (i .answer .tally .number) (behind whole) (i .answer .progress)
+        → inPlace (tallyPacked (i .answer .tally)) (putBehind whole back) (i .lent .ram) (i .lent .answers) ≡ partCall feed ram part answers
     part-done read i went chips back written =
         let whole = i .lent .state ++ drop 24 feed in
-        rw (put-behind whole back, take-at (i .lent .state) (drop 24 feed) 24 chips, written, rest whole 24, drop-at (i .lent .state) (drop 24 feed) 24 chips)
+        rw (
+          put-behind whole back,
+          take-at (i .lent .state) (drop 24 feed) 24 chips,
+          written,
+          rest whole 24,
+          drop-at (i .lent .state)
+              (drop 24 feed) 24 chips,
+        )
         (part-whole (read ∙ ap progressIn (rest feed 24)) i went)
 
 module _ (feed : List ℕ) where
@@ -61,17 +69,17 @@ module _ (feed : List ℕ) where
   close-length h = rw (ne-eqb (length feed) 48 h)
 
   -- what a close leaves, from what it gave
-  abbrev pub closeLeftOf : Progress → Fed → Result ℕ (List ℕ)
-  closeLeftOf t o = result (toldPacked (o .ran)) (take 24 feed ++ keptOr (t .ending) (o .ran .number) (drop 24 feed) (o .feed .progress))
+  abbrev pub closeLeft : Progress → Fed → Result ℕ (List ℕ)
+  closeLeft t o = result (tallyPacked (o .tally)) (take 24 feed ++ keptOr (t .ending) (o .tally .number) (drop 24 feed) (o .feed .progress))
 
   module _ (h : length feed ≡ 48) (t : Progress) where
-    pub close-whole : t ≡ progressIn (drop 24 feed) → (o : Fed) → o ≡ closeOf (feedIn (take 24 feed) t) → closeLeftOf t o ≡ closeCall feed
+    pub close-whole : t ≡ progressIn (drop 24 feed) → (o : Fed) → o ≡ closeOf (feedIn (take 24 feed) t) → closeLeft t o ≡ closeCall feed
     unfolding closeCall
     close-whole read o closed = rw (eq-eqb (length feed) 48 h, closed, read)
 
     pub close-done : t ≡ progressIn (behind feed) → (o : Fed) → o ≡ closeOf (feedIn (take 24 feed) t) → (back : List ℕ)
-        → back ≡ keptOr (t .ending) (o .ran .number) (behind feed) (o .feed .progress)
-        → result (toldPacked (o .ran)) (putBehind feed back) ≡ closeCall feed
+        → back ≡ keptOr (t .ending) (o .tally .number) (behind feed) (o .feed .progress)
+        → result (tallyPacked (o .tally)) (putBehind feed back) ≡ closeCall feed
     close-done read o closed back written =
         rw (put-behind feed back, written, rest feed 24) (close-whole (read ∙ ap progressIn (rest feed 24)) o closed)
 
@@ -87,7 +95,7 @@ module _ (feed chips : List ℕ) where
 
     pub open-done : length chips ≡ 24 → (both : Chips) → both ≡ chipsIn chips → (o : Fed) → o ≡ openOf (both .left) (both .right)
         → (copied : List ℕ) → copied ≡ chips → let whole = copied ++ drop 24 feed in (back : List ℕ) → back ≡ progressBytes (o .feed .progress)
-        → result (toldPacked (o .ran)) (putBehind whole back) ≡ openCall feed chips
+        → result (tallyPacked (o .tally)) (putBehind whole back) ≡ openCall feed chips
     unfolding openCall
     open-done k both read o opened copied same back written =
         let whole = copied ++ drop 24 feed in

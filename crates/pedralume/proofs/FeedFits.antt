@@ -10,33 +10,33 @@ use Rattle.basics.specs.Choice.{if}
 use Rattle.basics.proofs.Table.{each-line}
 use Rattle.basics.proofs.Tests.{when}
 use Rattle.sed1520.specs.declared.registers.Chip.{Chip}
-use Rattle.panel.specs.Panel.{panelOf, Whole}
+use Rattle.panel.specs.Panel.{asPanel, Whole}
 use Rattle.panel.specs.Promises.{isRecordNumber}
-use Rattle.trace.specs.Replay.{ranOf, ended, endedBytes}
-use Rattle.trace.specs.Feed.{begun, joinedTo, cutOff, feedOf, feedTable, partTable, PartOutcome, fedWith, notTaken, tookPart, countedOn, movedOn}
+use Rattle.trace.specs.Replay.{tally, ended, endedBytes}
+use Rattle.trace.specs.Feed.{begun, joinedTo, cutOff, asFeed, feedTable, partTable, PartOutcome, fedWith, notTaken, tookPart, countedOn, movedOn}
 use Rattle.trace.specs.Feed.{stoppedWith, openOf, openPart, partOf, openClose, closeOf}
-use Rattle.trace.specs.declared.Ran.{Ran}
+use Rattle.trace.specs.declared.Tally.{Tally}
 use Rattle.trace.specs.declared.progress.Ending.{Ending}
 use Rattle.trace.specs.declared.progress.Ending.the-variants.{Open, Stopped}
 use Rattle.trace.specs.declared.progress.Progress.{Progress}
 use Rattle.trace.specs.declared.feed.Feed.{Feed}
 use Rattle.trace.specs.declared.feed.Fed.{Fed}
-use Rattle.trace.proofs.Bounds.{ran-few}
+use Rattle.trace.proofs.Bounds.{tally-few}
 use Rattle.trace.proofs.FeedCases.{PartRight, part-right, state-two, state-low, by-ending}
 use Rattle.trace.proofs.KeptOver.{joined-length, cut-off-length}
 use Rattle.trace.proofs.RunNumbers.{run-number, low-number}
-use Rattle.pedralume.specs.FeedRecord.{numberByte, placeOf}
+use Rattle.pedralume.specs.FeedBytes.{numberByte, stopPlace}
 use Rattle.pedralume.specs.FeedPromises.{BytesFit, Fits}
 use Rattle.pedralume.proofs.BytesFit.{no-byte, byte-more, append-fit, take-fit, drop-fit}
 
 -- the number of a part's records, run on a whole panel
 module _ (f : Feed) (ram part answers : List ℕ) (right : PartRight f (length ram) (length part) (length answers)) where
-  pub part-number : isRecordNumber (endedBytes (panelOf (f .left) (f .right) ram) (joinedTo (f .progress) part) answers .answer .number) ≡ true
+  pub part-number : isRecordNumber (endedBytes (asPanel (f .left) (f .right) ram) (joinedTo (f .progress) part) answers .answer .number) ≡ true
   unfolding ended
   part-number =
-      let whole : Whole (panelOf (f .left) (f .right) ram) =
+      let whole : Whole (asPanel (f .left) (f .right) ram) =
       record { left = right .state .left; right = right .state .right; image = right .sizes .image } in
-      run-number (panelOf (f .left) (f .right) ram) whole (joinedTo (f .progress) part)
+      run-number (asPanel (f .left) (f .right) ram) whole (joinedTo (f .progress) part)
 
 abbrev FedFits : Fed → Type 0
 FedFits o = Fits (o .feed .progress)
@@ -45,9 +45,9 @@ abbrev PartFits : PartOutcome → Type 0
 PartFits o = Fits (o .lent .state .progress)
 
 -- counts that fit, with bytes to keep over and an ending that fit
-module _ (t : Progress) (ran : Ran) (records : t .records + ran .place < 4294967296) (compared : t .compared + ran .compared < 4294967296)
+module _ (t : Progress) (ran : Tally) (records : t .records + ran .place < 4294967296) (compared : t .compared + ran .compared < 4294967296)
     (differing : t .differing + ran .differing < 4294967296) where
-  counted-fits : (rest : List ℕ) (e : Ending) → length rest < 256 → BytesFit rest → numberByte e < 256 → placeOf e < 4294967296
+  counted-fits : (rest : List ℕ) (e : Ending) → length rest < 256 → BytesFit rest → numberByte e < 256 → stopPlace e < 4294967296
       → Fits (countedOn t ran rest e)
   counted-fits rest e short fit number place =
       record {
@@ -81,12 +81,12 @@ module _ (f : Feed) (fits : Fits (f .progress)) where
   part-fits ram part answers fit =
       let t = f .progress in
       let bytes = joinedTo t part in
-      let o = endedBytes (panelOf (f .left) (f .right) ram) bytes answers in
+      let o = endedBytes (asPanel (f .left) (f .right) ram) bytes answers in
       by-ending PartFits (t .ending) (λ n at e. fits)
       (λ _. each-line (notTaken f ram answers) (tookPart f bytes o) PartFits (partTable f (length ram) (length part) (length answers))
       (λ n at _. fits)
       (λ none. let right = part-right f (length ram) (length part) (length answers) none in
-      let few = ran-few (panelOf (f .left) (f .right) ram) bytes answers refl in
+      let few = tally-few (asPanel (f .left) (f .right) ram) bytes answers refl in
       let state = right .state in
       let size = joined-length t (state .few) part in
       let n = low-number (o .answer .number) (part-number f ram part answers right) in
@@ -117,14 +117,14 @@ module _ (f : Feed) (fits : Fits (f .progress)) where
             place = fits .records;
           }
 
-begun-fits : (e : Ending) → numberByte e < 256 → placeOf e < 4294967296 → Fits (begun e)
+begun-fits : (e : Ending) → numberByte e < 256 → stopPlace e < 4294967296 → Fits (begun e)
 begun-fits e number place =
-    counted-fits (begun Open) (ranOf 0 0 0 0) (omega arith) (omega arith) (omega arith) [] e (omega arith) no-byte number place
+    counted-fits (begun Open) (tally 0 0 0 0) (omega arith) (omega arith) (omega arith) [] e (omega arith) no-byte number place
 
 pub open-fits : (left right : Chip) → FedFits (openOf left right)
 unfolding openOf
 open-fits left right =
-    let f = feedOf left right (begun Open) in
-    each-line (λ n at. fedWith (feedOf left right (begun (Stopped n at))) n at) (fedWith f 0 0) FedFits (feedTable f)
+    let f = asFeed left right (begun Open) in
+    each-line (λ n at. fedWith (asFeed left right (begun (Stopped n at))) n at) (fedWith f 0 0) FedFits (feedTable f)
     (λ n at first. begun-fits (Stopped n at) (omega (arith, state-two f n at first)) (omega (arith, state-low f n at first)))
     (λ _. begun-fits Open (omega arith) (omega arith))

@@ -1,4 +1,4 @@
--- The calls on a feed's record give back and leave what the feed by value does, and its progress fits again.
+-- The calls on a feed's bytes give back and leave what the feed by value does, and its progress fits again.
 use Prim.Native.Nat.{ℕ}
 use mathlib.Core.Path.{_≡_, refl, sym, ap, _∙_}
 use mathlib.Core.Bool.{Bool, true, false, _&&_, true≢false}
@@ -10,15 +10,15 @@ use Rattle.basics.specs.Choice.{if}
 use Rattle.basics.specs.Verdict.{result}
 use Rattle.basics.proofs.Table.{each-line}
 use Rattle.basics.proofs.Tests.{when}
-use Rattle.sed1520.specs.ChipRecord.{recordRight}
+use Rattle.sed1520.specs.ChipBytes.{bytesPass}
 use Rattle.sed1520.specs.declared.registers.Chip.{Chip}
 use Rattle.panel.specs.Chips.{chipsBytes, chipsIn}
-use Rattle.panel.specs.Panel.{panelOf}
+use Rattle.panel.specs.Panel.{asPanel}
 use Rattle.panel.proofs.TwoChips.{two-length, two-there}
 use Rattle.trace.specs.Replay.{InPlace, inPlace, endedBytes}
-use Rattle.trace.specs.Feed.{begun, joinedTo, feedOf, feedTable, partTable, PartOutcome, fedBy, fedWith, notTaken, tookPart, stoppedWith}
+use Rattle.trace.specs.Feed.{begun, joinedTo, asFeed, feedTable, partTable, PartOutcome, fedBy, fedWith, notTaken, tookPart, stoppedWith}
 use Rattle.trace.specs.Feed.{openOf, openPart, partOf, openClose, closeOf}
-use Rattle.trace.specs.FeedInPlace.{feedIn, asRecords, partInPlace}
+use Rattle.trace.specs.FeedInPlace.{feedIn, partOverBytes, partInPlace}
 use Rattle.trace.specs.declared.progress.Ending.the-variants.{Open, Stopped}
 use Rattle.trace.specs.declared.progress.Progress.{Progress}
 use Rattle.trace.specs.declared.feed.Feed.{Feed}
@@ -27,8 +27,8 @@ use Rattle.trace.specs.declared.feed.FedInPlace.{FedInPlace}
 use Rattle.trace.proofs.FeedCases.{part-right, by-ending}
 use Rattle.trace.proofs.PartCases.{on-bytes, by-value}
 use Rattle.trace.proofs.RunNumbers.{own-number}
-use Rattle.pedralume.specs.FeedRecord.{progressBytes, feedBytes, progressIn}
-use Rattle.pedralume.specs.FeedCall.{toldPacked, stays, openCall, partCall, closeCall}
+use Rattle.pedralume.specs.FeedBytes.{progressBytes, feedBytes, progressIn}
+use Rattle.pedralume.specs.FeedCall.{tallyPacked, stays, openCall, partCall, closeCall}
 use Rattle.pedralume.specs.FeedPromises.{FeedCallsFollow}
 use Rattle.pedralume.proofs.FeedCallCases.{part-whole, close-whole}
 use Rattle.pedralume.proofs.FeedFits.{part-number, open-fits, part-fits, close-fits}
@@ -37,16 +37,16 @@ use Rattle.pedralume.proofs.FeedUndo.{there, feed-length, front, behind
 read : (f : Feed) → f .progress ≡ progressIn (drop 24 (feedBytes f))
 read f = sym (ap progressIn (behind f) ∙ there (f .progress))
 
--- where the record stays, so does the progress
+-- where the feed's bytes stay, so does the progress
 module _ (f : Feed) where
   abbrev Kept : Fed → Type 0
-  Kept o = stays (f .progress .ending) (o .ran .number) ≡ true → o .feed .progress ≡ f .progress
+  Kept o = stays (f .progress .ending) (o .tally .number) ≡ true → o .feed .progress ≡ f .progress
 
   part-kept : (ram part answers : List ℕ) → Kept (fedBy (partOf f ram part answers))
   unfolding partOf openPart
   part-kept ram part answers =
       let bytes = joinedTo (f .progress) part in
-      let ran = endedBytes (panelOf (f .left) (f .right) ram) bytes answers in
+      let ran = endedBytes (asPanel (f .left) (f .right) ram) bytes answers in
       by-ending (λ (o : PartOutcome). Kept (fedBy o)) (f .progress .ending) (λ n at e _. refl)
       (λ e. each-line (notTaken f ram answers) (tookPart f bytes ran) (λ (o : PartOutcome). Kept (fedBy o))
       (partTable f (length ram) (length part) (length answers)) (λ n at _ _. refl)
@@ -75,7 +75,7 @@ written : (t next : Progress) (s : Bool) → (s ≡ true → next ≡ t) → if 
 written t next true h = rw (h refl)
 written t next false h = refl
 
--- chip records are those of the chips that they are read as
+-- the chips' bytes are those of the chips that they are read as
 abbrev Own : List ℕ → Type 0
 Own chips = chipsBytes (chipsIn chips .left) (chipsIn chips .right) ≡ chips
 
@@ -89,13 +89,13 @@ module _ (f : Feed) (ram part answers : List ℕ) where
   abbrev i : InPlace FedInPlace
   i = partInPlace (chipsBytes (f .left) (f .right)) (f .progress) ram part answers
 
-  as-records : i ≡ asRecords (chipsBytes (f .left) (f .right)) o
-  as-records = on-bytes (f .left) (f .right) (f .progress) ram part answers
+  over-bytes : i ≡ partOverBytes (chipsBytes (f .left) (f .right)) o
+  over-bytes = on-bytes (f .left) (f .right) (f .progress) ram part answers
 
   chips-own : Own (i .lent .state)
   chips-own =
-      rw as-records
-      (when Own (recordRight (take 12 (chipsBytes (f .left) (f .right))) && recordRight (drop 12 (chipsBytes (f .left) (f .right))))
+      rw over-bytes
+      (when Own (bytesPass (take 12 (chipsBytes (f .left) (f .right))) && bytesPass (drop 12 (chipsBytes (f .left) (f .right))))
       (λ _. own (o .lent .state .left) (o .lent .state .right)) (λ _. own (f .left) (f .right)))
 
   chips-after : i .lent .state ≡ chipsBytes (o .lent .state .left) (o .lent .state .right)
@@ -104,31 +104,33 @@ module _ (f : Feed) (ram part answers : List ℕ) where
       ∙ ap (λ (p : PartOutcome). chipsBytes (p .lent .state .left) (p .lent .state .right))
       (by-value (f .left) (f .right) (f .progress) ram part answers _ refl i refl)
 
-  part-follows : partCall (feedBytes f) ram part answers ≡ inPlace (toldPacked (o .answer)) (feedBytes (o .lent .state)) (o .lent .ram) (o .lent .answers)
+  part-follows : partCall (feedBytes f) ram part answers
+      ≡ inPlace (tallyPacked (o .answer)) (feedBytes (o .lent .state)) (o .lent .ram) (o .lent .answers)
   part-follows =
       let e : i ≡ partInPlace (take 24 (feedBytes f)) (f .progress) ram part answers = rw (front f) in
       let done = part-whole (feedBytes f) ram part answers (feed-length f) (f .progress) (read f) i e in
       let next = o .lent .state .progress in
       let kept = written (f .progress) next (stays (f .progress .ending) (o .answer .number)) (part-kept f ram part answers) in
-      sym done ∙ rw (chips-after, as-records, behind f, kept)
+      sym done ∙ rw (chips-after, over-bytes, behind f, kept)
 
 module _ (f : Feed) where
-  close-follows : let o = closeOf f in closeCall (feedBytes f) ≡ result (toldPacked (o .ran)) (feedBytes (o .feed))
+  close-follows : let o = closeOf f in closeCall (feedBytes f) ≡ result (tallyPacked (o .tally)) (feedBytes (o .feed))
   close-follows =
       let o = closeOf f in
       let e : o ≡ closeOf (feedIn (take 24 (feedBytes f)) (f .progress)) = rw (front f) (rw (two-there (f .left) (f .right))) in
       let done = close-whole (feedBytes f) (feed-length f) (f .progress) (read f) o e in
-      let kept = written (f .progress) (o .feed .progress) (stays (f .progress .ending) (o .ran .number)) (close-kept f) in
+      let kept = written (f .progress) (o .feed .progress) (stays (f .progress .ending) (o .tally .number)) (close-kept f) in
       sym done ∙ rw (front f, behind f, kept) (rw (close-chips f))
 
 open-chips : (left right : Chip) → let after = openOf left right .feed in chipsBytes left right ≡ chipsBytes (after .left) (after .right)
 unfolding openOf
 open-chips left right =
-    let f = feedOf left right (begun Open) in
-    each-line (λ n at. fedWith (feedOf left right (begun (Stopped n at))) n at) (fedWith f 0 0) (SameChips f) (feedTable f) (λ n at _. refl) (λ _. refl)
+    let f = asFeed left right (begun Open) in
+    each-line (λ n at. fedWith (asFeed left right (begun (Stopped n at))) n at) (fedWith f 0 0) (SameChips f) (feedTable f) (λ n at _. refl)
+    (λ _. refl)
 
 open-follows : (feed : List ℕ) (left right : Chip) → length feed ≡ 48 → let o = openOf left right in
-    openCall feed (chipsBytes left right) ≡ result (toldPacked (o .ran)) (feedBytes (o .feed))
+    openCall feed (chipsBytes left right) ≡ result (tallyPacked (o .tally)) (feedBytes (o .feed))
 unfolding openCall
 open-follows feed left right h =
     rw (eq-eqb (length feed) 48 h, eq-eqb (length (chipsBytes left right)) 24 (two-length left right), two-there left right)

@@ -1,4 +1,5 @@
--- A stopped record; what the calls refuse, where every buffer stays as it came but at an opening by 2; and what they tell where they do not refuse.
+-- The bytes of a stopped feed; what the calls refuse, where every buffer stays as it came but at an opening by 2; and the numbers that they give
+-- where they do not refuse.
 use Prim.Native.Nat.{ℕ, _%_}
 use native.Mathlib.Omega.{arith}
 use mathlib.Core.Path.{_≡_, refl, sym, ap, subst, _∙_}
@@ -13,9 +14,9 @@ use Rattle.basics.specs.Choice.{if}
 use Rattle.basics.specs.Table.{Cause, cause, leftThenRight, First, NoneHolds}
 use Rattle.basics.specs.Verdict.{result}
 use Rattle.basics.proofs.Tests.{tested}
-use Rattle.sed1520.specs.ChipRecord.{recordRight}
+use Rattle.sed1520.specs.ChipBytes.{bytesPass}
 use Rattle.panel.specs.Chips.{chipsIn}
-use Rattle.panel.specs.Panel.{panelOf}
+use Rattle.panel.specs.Panel.{asPanel}
 use Rattle.panel.proofs.TwoChips.{left-passes, right-passes}
 use Rattle.trace.specs.Replay.{ReplayOutcome, inPlace, endedBytes, sizesWrong}
 use Rattle.trace.specs.Feed.{begun, joinedTo, completedBy, tooMany, progressWrong, feedTable, partTable, fedWith, openOf, tookPart, closeOf}
@@ -28,9 +29,9 @@ use Rattle.trace.proofs.FeedCases.{state-two, part-right, part-refuses, part-ta
 use Rattle.trace.proofs.PartCases.{still-stopped, still-open, not-taken}
 use Rattle.trace.proofs.RunNumbers.{own-number, low-number}
 use Rattle.trace.proofs.StoppedFeed.{stopped-repeats}
-use Rattle.pedralume.specs.FeedRecord.{wordAt, progressBytes, marksRight, progressIn}
-use Rattle.pedralume.specs.FeedCall.{feedPacked, toldPacked, stays, openCall, partCall, closeCall}
-use Rattle.pedralume.specs.FeedPromises.{StoppedRecordRepeats, recordTable, partCallTable, FeedCallsRefuse}
+use Rattle.pedralume.specs.FeedBytes.{wordAt, progressBytes, marksRight, progressIn}
+use Rattle.pedralume.specs.FeedCall.{feedPacked, tallyPacked, stays, openCall, partCall, closeCall}
+use Rattle.pedralume.specs.FeedPromises.{StoppedBytesRepeat, feedBytesTable, partCallTable, FeedCallsRefuse}
 use Rattle.pedralume.proofs.FeedCallCases.{part-length, part-whole, close-length, close-whole, open-feed, open-chips}
 use Rattle.pedralume.proofs.FeedFits.{part-number}
 use Rattle.pedralume.proofs.FeedUndo.{feed-unpacks}
@@ -53,14 +54,14 @@ module _ (feed : List ℕ) (h : length feed ≡ 48) (n at : ℕ) where
     pub close-stays : closeOf (feedIn (take 24 feed) t) ≡ fedWith (feedIn (take 24 feed) t) n at → closeCall feed ≡ result (feedPacked n at) feed
     close-stays e = sym (close-whole feed h t refl _ (sym e)) ∙ rw same (rw (take-append-drop 24 feed))
 
--- stopped
+-- the bytes of a stopped feed
 module _ (feed : List ℕ) (one : getD feed 28 0 ≡ 1) where
   is-stopped : progressIn (drop 24 feed) .ending ≡ Stopped (getD feed 29 0) (wordAt feed 32)
   unfolding progressIn
   is-stopped = simp getD-drop (rw (eq-eqb (getD feed 28 0) 1 one))
 
-pub stopped-record-repeats : StoppedRecordRepeats
-stopped-record-repeats =
+pub stopped-bytes-repeat : StoppedBytesRepeat
+stopped-bytes-repeat =
     record {
       part =
           λ feed ram part answers h one. let e = is-stopped feed one in
@@ -75,7 +76,7 @@ stand-in few false r a d =
     ap (λ (t : Bool). few || t) (or-true (ltb r 0))
     ∙ sym (ap (λ (t : Bool). few || t) (ap (λ (t : Bool). ltb r a || t) (or-true (ltb a d)) ∙ or-true (ltb r a)))
 
--- so what is read from the bytes behind the chips is wrong where they are
+-- the progress read from the bytes behind the chips is wrong exactly where these bytes are
 same-wrong : (b : List ℕ) → progressWrong (progressIn b)
     ≡ (ltb 3 (getD b 0 0) || (ltb (wordAt b 12) (wordAt b 16) || (ltb (wordAt b 16) (wordAt b 20) || not (marksRight b))))
 unfolding progressIn progressWrong
@@ -86,7 +87,7 @@ module _ (feed : List ℕ) (h : length feed ≡ 48) where
   abbrev read : Feed
   read = feedIn (take 24 feed) (progressIn (drop 24 feed))
 
-  same-state : feedTable read ≡ recordTable feed
+  same-state : feedTable read ≡ feedBytesTable feed
   same-state =
       let size = chips-length feed h 0 0 in
       rw (left-passes (take 24 feed) size _ refl, right-passes (take 24 feed) size _ refl, same-wrong (drop 24 feed))
@@ -113,7 +114,7 @@ module _ (feed : List ℕ) (h : length feed ≡ 48) where
         part-stays feed h n at (rw e (part-refuses read (length ram) (length part) (length answers) n at line)) ram part answers
         (still-open _ ram part answers _ size e ∙ sym (not-taken _ ram part answers _ size n at line))
 
-    close-call-refused : First (recordTable feed) n at → closeCall feed ≡ result (feedPacked n at) feed
+    close-call-refused : First (feedBytesTable feed) n at → closeCall feed ≡ result (feedPacked n at) feed
     close-call-refused first =
         let line = subst (λ (t : List Cause). First t n at) (sym same-state) first in
         let e = is-open other in
@@ -123,12 +124,12 @@ module _ (feed : List ℕ) (h : length feed ≡ 48) where
   module _ (ram part answers : List ℕ) (other : getD feed 28 0 ≡ 1 → ⊥)
       (none : NoneHolds (partCallTable feed (length ram) (length part) (length answers))) where
     abbrev outcome : ReplayOutcome
-    outcome = endedBytes (panelOf (read .left) (read .right) ram) (joinedTo (read .progress) part) answers
+    outcome = endedBytes (asPanel (read .left) (read .right) ram) (joinedTo (read .progress) part) answers
 
     passed : NoneHolds (partTable read (length ram) (length part) (length answers))
     passed = subst NoneHolds (sym (same-part (length ram) (length part) (length answers))) none
 
-    given : partCall feed ram part answers .answer ≡ toldPacked (tookPart read (joinedTo (read .progress) part) outcome .answer)
+    given : partCall feed ram part answers .answer ≡ tallyPacked (tookPart read (joinedTo (read .progress) part) outcome .answer)
     given =
         let is = still-open (take 24 feed) ram part answers _ (chips-length feed h 0 0) (is-open other) in
         rw (← part-whole feed ram part answers h _ refl _ (sym is)) (rw (part-taken read ram part answers passed))
@@ -139,7 +140,7 @@ module _ (feed : List ℕ) (h : length feed ≡ 48) where
         let low = low-number (outcome .answer .number) own in
         rw (given, feed-unpacks .number-of (outcome .answer .number) _ (omega (arith, low))) (own-number (outcome .answer .number) own)
 
-  close-call-done : (getD feed 28 0 ≡ 1 → ⊥) → NoneHolds (recordTable feed)
+  close-call-done : (getD feed 28 0 ≡ 1 → ⊥) → NoneHolds (feedBytesTable feed)
       → closeCall feed .answer ≡ feedPacked (if (eqb (getD (drop 24 feed) 0 0) 0) 0 3) (wordAt (drop 24 feed) 12)
   unfolding progressIn
   close-call-done other none =
@@ -147,7 +148,7 @@ module _ (feed : List ℕ) (h : length feed ≡ 48) where
 
 -- an opening's number 2
 module _ (feed chips : List ℕ) (h : length feed ≡ 48) (k : length chips ≡ 24) (n at : ℕ) where
-  open-call-state : First (leftThenRight 2 (not (recordRight (take 12 chips))) (not (recordRight (drop 12 chips))) []) n at
+  open-call-state : First (leftThenRight 2 (not (bytesPass (take 12 chips))) (not (bytesPass (drop 12 chips))) []) n at
       → openCall feed chips ≡ result (feedPacked n at) (chips ++ progressBytes (begun (Stopped n at)))
   unfolding openCall
   open-call-state first =

@@ -1,4 +1,4 @@
--- A feed and its record: each is read back from the other; and the 64-bit number taken apart.
+-- A feed and its bytes: each is read back from the other; and the 64-bit number taken apart.
 use Prim.Native.Nat.{ℕ, _/_, _%_, _<_}
 use native.Mathlib.Omega.{arith}
 use mathlib.Core.Path.{_≡_, refl, _∙_}
@@ -11,8 +11,8 @@ use Rattle.trace.specs.declared.progress.Ending.{Ending}
 use Rattle.trace.specs.declared.progress.Ending.the-variants.{Open, Stopped}
 use Rattle.trace.specs.declared.progress.Progress.{Progress}
 use Rattle.trace.specs.declared.feed.Feed.{Feed}
-use Rattle.pedralume.specs.FeedRecord.{wordOf, stoppedByte, feedBytes, progressBytes, marksRight, progressIn}
-use Rattle.pedralume.specs.FeedPromises.{BytesFit, Fits, FeedUnpacks, FeedRecordsUndo}
+use Rattle.pedralume.specs.FeedBytes.{asWord, stoppedByte, feedBytes, progressBytes, marksRight, progressIn}
+use Rattle.pedralume.specs.FeedPromises.{BytesFit, Fits, FeedUnpacks, FeedBytesUndo}
 use Rattle.pedralume.proofs.BytesFit.{no-byte, byte-more, number-more}
 use Rattle.pedralume.proofs.FeedBack.{back}
 use Rattle.pedralume.proofs.FeedPlaces.{open-place, part-place, close-place}
@@ -27,11 +27,11 @@ feed-unpacks =
       close-place = close-place;
     }
 
-number-back : (n : ℕ) → wordOf (n % 256) (n / 256 % 256) (n / 65536 % 256) (n / 16777216) ≡ n
+number-back : (n : ℕ) → asWord (n % 256) (n / 256 % 256) (n / 65536 % 256) (n / 16777216) ≡ n
 number-back n = omega arith
 
-abbrev progressOf : ℕ → ℕ → ℕ → ℕ → ℕ → ℕ → ℕ → Ending → Progress
-progressOf kept first second third records compared differing ending =
+abbrev asProgress : ℕ → ℕ → ℕ → ℕ → ℕ → ℕ → ℕ → Ending → Progress
+asProgress kept first second third records compared differing ending =
     record {
       kept = kept;
       first = first;
@@ -45,7 +45,7 @@ progressOf kept first second third records compared differing ending =
 
 -- by how a feed's ending is marked
 ending-there : (kept first second third records compared differing : ℕ) (e : Ending)
-    → let t = progressOf kept first second third records compared differing e in progressIn (progressBytes t) ≡ t
+    → let t = asProgress kept first second third records compared differing e in progressIn (progressBytes t) ≡ t
 unfolding progressIn progressBytes marksRight
 ending-there kept first second third records compared differing Open = rw (number-back records, number-back compared, number-back differing)
 ending-there kept first second third records compared differing (Stopped n at) =
@@ -63,7 +63,7 @@ feed-length f =
     length-append (chipsBytes (f .left) (f .right)) (progressBytes (f .progress))
     ∙ omega (arith, two-length (f .left) (f .right), progress-length (f .progress))
 
--- a feed's record taken apart
+-- a feed's bytes taken apart
 module _ (f : Feed) where
   pub front : take 24 (feedBytes f) ≡ chipsBytes (f .left) (f .right)
   front = take-at (chipsBytes (f .left) (f .right)) (progressBytes (f .progress)) 24 (two-length (f .left) (f .right))
@@ -85,6 +85,6 @@ bytes t fits =
     (byte-more _ (stopped-small (t .ending)) (byte-more _ (fits .number) (byte-more 0 (omega arith) (byte-more 0 (omega arith)
     (number-more _ (fits .place) (number-more _ (fits .records) (number-more _ (fits .compared) (number-more _ (fits .differing) no-byte)))))))))))
 
-pub feed-records-undo : FeedRecordsUndo
-feed-records-undo =
+pub feed-bytes-undo : FeedBytesUndo
+feed-bytes-undo =
     record { there = there; feed-there = feed-there; back = back; bytes = bytes; progress-length = progress-length; feed-length = feed-length }

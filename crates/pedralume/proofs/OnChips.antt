@@ -1,4 +1,4 @@
--- The calls that take chip records and fill a buffer: number 1 by the records' length, and the callee's answer past it.
+-- The calls that take the chips' bytes and fill a buffer: number 1 by the length of these bytes, and the callee's answer past it.
 use Prim.Native.Nat.{ℕ, _<_}
 use mathlib.Core.Path.{_≡_, sym, ap, _∙_}
 use mathlib.Core.List.{List}

@@ -5,13 +5,13 @@ use mathlib.Core.List.{List}
 use lib.Dec.{eqb}
 use lib.ListN.{length}
 use Rattle.basics.specs.Choice.{if}
-use Rattle.panel.specs.Chips.{chipsIn}
+use Rattle.panel.specs.Chips.{chipsLength, chipsIn}
 use Rattle.sed1520.specs.declared.registers.Chip.{Chip}
-use Rattle.panel.specs.Panel.{panelOf}
+use Rattle.panel.specs.Panel.{asPanel}
 use Rattle.basics.specs.Verdict.{Result, result}
 use Rattle.basics.specs.declared.verdict.Verdict.{Verdict}
 use Rattle.trace.specs.Replay.{InPlace, replayInPlace}
-use Rattle.trace.specs.declared.Ran.{Ran}
+use Rattle.trace.specs.declared.Tally.{Tally}
 use Rattle.frame.specs.Frame.{framed}
 use Rattle.repaint.specs.Repaint.{repaintOf}
 use Rattle.visible.specs.Changes.{changesOf}
@@ -20,34 +20,34 @@ use Rattle.visible.specs.Changes.{changesOf}
 abbrev pub packed : ℕ → ℕ → ℕ → ℕ → ℕ
 packed number place compared differing = number + 256 * place + 2 ^ 24 * compared + 2 ^ 40 * differing
 
--- a replay over chip records, its number, place and counts packed
-abbrev pub packedReplay : InPlace Ran → InPlace ℕ
+-- what a replay over chip bytes gives back and leaves, its number, place and counts packed
+abbrev pub packedReplay : InPlace Tally → InPlace ℕ
 packedReplay i = let a = i .answer in result (packed (a .number) (a .place) (a .compared) (a .differing)) (i .lent)
 
--- the replay over the chip records
+-- the replay's call, over chip bytes
 abbrev pub replayCall : List ℕ → List ℕ → List ℕ → List ℕ → InPlace ℕ
 replayCall chips ram trace answers = packedReplay (replayInPlace chips ram trace answers)
 
--- what a call that fills one buffer gives back, number and place packed, both counts 0; and the buffer
+-- what a call that fills one buffer gives back and leaves: a number and a place packed, both counts 0, and the buffer
 abbrev pub packedWith : List ℕ → ℕ → ℕ → Result ℕ (List ℕ)
 packedWith buffer number place = result (packed number place 0 0) buffer
 
--- a result buffer, the number and the place packed
+-- a verdict and the buffer that was filled, the number and the place packed
 abbrev pub packedFilled : Result Verdict (List ℕ) → Result ℕ (List ℕ)
 packedFilled o = packedWith (o .lent) (o .answer .number) (o .answer .place)
 
--- number 1 where the chip records are not 24 bytes, then the call on their chips, with its own number 1 before number 2
+-- number 1 where the chips' bytes are not 24, then the call on their chips, with its own number 1 before number 2
 unfoldable pub onChips : List ℕ → List ℕ → (Chip → Chip → Result ℕ (List ℕ)) → Result ℕ (List ℕ)
-onChips chips buffer call = if (not (eqb (length chips) 24)) (packedWith buffer 1 0) (call (chipsIn chips .left) (chipsIn chips .right))
+onChips chips buffer call = if (not (eqb (length chips) chipsLength)) (packedWith buffer 1 0) (call (chipsIn chips .left) (chipsIn chips .right))
 
--- the frame of the chips
+-- the frame's call, on the chips read from their bytes
 abbrev pub frameCall : List ℕ → List ℕ → List ℕ → Result ℕ (List ℕ)
-frameCall chips ram buffer = onChips chips buffer (λ left right. packedFilled (framed (panelOf left right ram) buffer))
+frameCall chips ram buffer = onChips chips buffer (λ left right. packedFilled (framed (asPanel left right ram) buffer))
 
--- the repaint of the chips
+-- the repaint's call, on the chips read from their bytes
 abbrev pub repaintCall : List ℕ → List ℕ → List ℕ → Result ℕ (List ℕ)
 repaintCall chips picture buffer = onChips chips buffer (λ left right. packedFilled (repaintOf left right picture buffer))
 
--- the entries of the records that changed what the panel of the chips shows
+-- the call of the list of changes, on the chips read from their bytes
 abbrev pub changesCall : List ℕ → List ℕ → List ℕ → List ℕ → Result ℕ (List ℕ)
-changesCall chips ram trace buffer = onChips chips buffer (λ left right. packedFilled (changesOf (panelOf left right ram) trace buffer))
+changesCall chips ram trace buffer = onChips chips buffer (λ left right. packedFilled (changesOf (asPanel left right ram) trace buffer))

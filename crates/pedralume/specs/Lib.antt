@@ -2,7 +2,7 @@ pub mod Call
 pub mod Promises
 pub mod Refusals
 pub mod Shown
-pub mod FeedRecord
+pub mod FeedBytes
 pub mod FeedCall
 pub mod FeedPromises
 pub mod AsReplay

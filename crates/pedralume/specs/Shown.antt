@@ -4,32 +4,34 @@ use mathlib.Core.Path.{_≡_}
 use mathlib.Core.List.{List}
 use lib.ListN.{length, take}
 use Rattle.panel.specs.Panel.{Whole}
-use Rattle.panel.specs.Panel.{Panel, panelOf, after}
+use Rattle.panel.specs.Panel.{Panel, asPanel, after}
 use Rattle.sed1520.specs.Records.{wholeRecords}
-use Rattle.trace.specs.Promises.{Runs, repliesOf}
+use Rattle.trace.specs.Promises.{Replayable, repliesTo}
 use Rattle.panel.specs.Trace.{traceRun}
 use Rattle.trace.specs.Replay.{panelAfter, replayOf}
 use Rattle.trace.specs.Feed.{openOf}
 use Rattle.trace.specs.FeedPromises.{Part, joinedBytes, fedFrom, Taken}
 use Rattle.basics.specs.Verdict.{verdict}
 use Rattle.basics.specs.Verdict.{result}
-use Rattle.frame.specs.Frame.{frameBytes, frameOf, framed}
+use Rattle.frame.specs.Frame.{frameLength, frameOf, framed}
 
 -- the panel that the replay of the first k records leaves has a frame, given with number 0 and place 488: that of the panel after these k records
 abbrev pub ShownAfterEachRecord : Type 0
 ShownAfterEachRecord =
-    (p : Panel) (trace answers buffer : List ℕ) → Runs p trace answers → length buffer ≡ frameBytes → (k : ℕ) → k ≤ replayOf p trace answers .answer .place
-    → framed (panelAfter (replayOf p (take (4 * k) trace) answers)) buffer ≡ result (verdict 0 frameBytes) (frameOf (after p (take k (wholeRecords trace))))
+    (p : Panel) (trace answers buffer : List ℕ) → Replayable p trace answers → length buffer ≡ frameLength → (k : ℕ)
+    → k ≤ replayOf p trace answers .answer .place
+    → framed (panelAfter (replayOf p (take (4 * k) trace) answers)) buffer
+    ≡ result (verdict 0 frameLength) (frameOf (after p (take k (wholeRecords trace))))
 
--- and so has the panel that a feed leaves after any parts that it takes, however long in all: that of the panel after their whole records
+-- the panel that a feed leaves after any parts that it takes, however long in all, has a frame: that of the panel after their whole records
 abbrev pub ShownAfterEachPart : Type 0
 ShownAfterEachPart =
-    (p : Panel) (xs : List Part) (buffer : List ℕ) → Whole p → Taken (openOf (p .left) (p .right) .feed) (p .ram) xs → length buffer ≡ frameBytes
+    (p : Panel) (xs : List Part) (buffer : List ℕ) → Whole p → Taken (openOf (p .left) (p .right) .feed) (p .ram) xs → length buffer ≡ frameLength
     → let o = fedFrom p xs in let f = o .lent .state in
-    framed (panelOf (f .left) (f .right) (o .lent .ram)) buffer ≡ result (verdict 0 frameBytes) (frameOf (after p (wholeRecords (joinedBytes xs))))
+    framed (asPanel (f .left) (f .right) (o .lent .ram)) buffer ≡ result (verdict 0 frameLength) (frameOf (after p (wholeRecords (joinedBytes xs))))
 
--- and the panel after each record of any bytes run one after the other, as a feed runs them, however many they are
+-- the panel that a run of the first k records of any bytes, however many, leaves has a frame: that of the panel after these k records
 abbrev pub ShownInEveryRun : Type 0
 ShownInEveryRun =
-    (p : Panel) (bytes buffer : List ℕ) → Whole p → length buffer ≡ frameBytes → (k : ℕ) → k ≤ length (repliesOf p bytes)
-    → framed (traceRun p (take (4 * k) bytes) .state) buffer ≡ result (verdict 0 frameBytes) (frameOf (after p (take k (wholeRecords bytes))))
+    (p : Panel) (bytes buffer : List ℕ) → Whole p → length buffer ≡ frameLength → (k : ℕ) → k ≤ length (repliesTo p bytes)
+    → framed (traceRun p (take (4 * k) bytes) .state) buffer ≡ result (verdict 0 frameLength) (frameOf (after p (take k (wholeRecords bytes))))

@@ -1,7 +1,7 @@
 // The calls of the C side, on byte slices and one 64-bit number; those of the feed are in feed_calls. The header is
 // host/include/pedralume.h.
+mod feed_bytes;
 pub mod feed_calls;
-mod feed_record;
 mod packing;
 
 ghost use mathlib.Core.Path.{_≡_};
@@ -12,7 +12,7 @@ use crate::packing::pack;
 use panel::chips::CHIPS_BYTES;
 use panel::chips::chips_in;
 
-// The replay of a trace on two chip records, the image and an answer buffer.
+// The replay of a trace on the chips' bytes, the image and an answer buffer.
 #[no_mangle]
 pub extern "C" fn pedralume_replay(
     chips: &mut [u8],
@@ -23,11 +23,11 @@ pub extern "C" fn pedralume_replay(
     ensures { λ r. ⌜ inPlace r (now (chips .exit)) (now (ram .exit)) (now (answers .exit))
         ≡ replayCall (now (chips .entry)) (now (ram .entry)) (now (trace .entry)) (now (answers .entry)) ⌝ }
 {
-    let ran = trace::replay_in_place(chips, ram, trace, answers);
-    pack(ran.number, ran.place, ran.compared, ran.differing)
+    let tally = trace::replay_in_place(chips, ram, trace, answers);
+    pack(tally.number, tally.place, tally.compared, tally.differing)
 }
 
-// The frame that two chip records and the image show, into a frame buffer.
+// The frame that the chips' bytes and the image show, into a frame buffer.
 #[no_mangle]
 pub extern "C" fn pedralume_frame(chips: &[u8], ram: &[u8], frame: &mut [u8]) -> u64
     ensures { λ r. ⌜ result r (now (frame .exit)) ≡ frameCall (now (chips .entry)) (now (ram .entry)) (now (frame .entry)) ⌝ }
@@ -42,7 +42,7 @@ pub extern "C" fn pedralume_frame(chips: &[u8], ram: &[u8], frame: &mut [u8]) ->
     pack(done.number, done.place, 0, 0)
 }
 
-// The records that bring a picture to the panel of two chip records, into an output buffer.
+// The records that bring a picture to the panel of the chips' bytes, into an output buffer.
 #[no_mangle]
 pub extern "C" fn pedralume_repaint(chips: &[u8], picture: &[u8], output: &mut [u8]) -> u64
     ensures { λ r. ⌜ result r (now (output .exit)) ≡ repaintCall (now (chips .entry)) (now (picture .entry)) (now (output .entry)) ⌝ }
@@ -57,7 +57,7 @@ pub extern "C" fn pedralume_repaint(chips: &[u8], picture: &[u8], output: &mut [
     pack(painted.number, painted.place, 0, 0)
 }
 
-// The records of a trace that changed what the panel shows, on two chip records and the image, into a buffer of entries.
+// The records of a trace that changed what the panel shows, on the chips' bytes and the image, into a buffer of entries.
 #[no_mangle]
 pub extern "C" fn pedralume_changes(
     chips: &[u8],

@@ -9,26 +9,26 @@ use Rattle.basics.specs.Lists.{joined}
 use Rattle.sed1520.specs.Records.{recordsBytes}
 use Rattle.sed1520.proofs.Records.{bytes-append, bytes-length}
 use Rattle.frame.proofs.Examples.{frame-examples}
-use Rattle.repaint.specs.Repaint.{pageRecords, pagesOf, turnsOf, recordsOf, repaintOf}
+use Rattle.repaint.specs.Repaint.{pageRecords, hiddenPages, lineTurns, repaintRecords, repaintOf}
 use Rattle.repaint.specs.Examples.{LeftReverse, Examples}
 use Rattle.repaint.proofs.ReadyChips.{ready-outcome}
 use Rattle.repaint.proofs.Counts.{pages-length}
 
 module _ (left right : Chip) (picture buffer : List ℕ) (at : LeftReverse left right picture buffer) where
-  written : repaintOf left right picture buffer .lent ≡ recordsBytes (recordsOf left right picture) ++ drop 1016 buffer
+  written : repaintOf left right picture buffer .lent ≡ recordsBytes (repaintRecords left right picture) ++ drop 1016 buffer
   written = rw (ready-outcome left right (at .left-ready) (at .right-ready) picture buffer (at .sizes))
 
   begins : take 8 (repaintOf left right picture buffer .lent) ≡ 0x02 ∷ 0x00 ∷ 0xBA ∷ 0x00 ∷ 0x02 ∷ 0x00 ∷ 0x13 ∷ 0x00 ∷ []
-  unfolding flatMap joined recordsOf pageRecords
+  unfolding flatMap joined repaintRecords pageRecords
   begins = rw (written, at .left-line, at .reverse)
 
   -- the bytes after those of the pages
-  turns : drop 1008 (recordsBytes (recordsOf left right picture) ++ drop 1016 buffer) ≡ recordsBytes (turnsOf left right) ++ drop 1016 buffer
-  unfolding recordsOf
+  turns : drop 1008 (recordsBytes (repaintRecords left right picture) ++ drop 1016 buffer) ≡ recordsBytes (lineTurns left right) ++ drop 1016 buffer
+  unfolding repaintRecords
   turns =
-      let pages = pagesOf left right picture in
-      rw (bytes-append pages (turnsOf left right), append-assoc)
-      (drop-at (recordsBytes pages) (recordsBytes (turnsOf left right) ++ drop 1016 buffer) 1008
+      let pages = hiddenPages left right picture in
+      rw (bytes-append pages (lineTurns left right), append-assoc)
+      (drop-at (recordsBytes pages) (recordsBytes (lineTurns left right) ++ drop 1016 buffer) 1008
       (bytes-length pages ∙ rw (pages-length left right picture)))
 
   ends : take 8 (drop 1008 (repaintOf left right picture buffer .lent)) ≡ 0x02 ∷ 0x00 ∷ 0xD0 ∷ 0x00 ∷ 0x02 ∷ 0x01 ∷ 0xD0 ∷ 0x00 ∷ []

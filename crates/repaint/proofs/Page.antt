@@ -1,4 +1,4 @@
--- One hidden page of either chip: page set, column set, 61 data writes. Every stop is quiet; afterwards the page holds its row of the picture, and
+-- One hidden page of either chip: page set, column set, 61 data writes. Every stop is quiet; afterwards the page holds its band of the picture, and
 -- every other hidden page what it held.
 use Prim.Native.Nat.{ℕ, _+_, _-_, _/_, _<_, _≤_}
 use native.Mathlib.Omega.{arith}
@@ -12,25 +12,25 @@ use Rattle.basics.specs.Lists.{tabulated}
 use Rattle.basics.proofs.Run.{Stops, stops-first, state-first}
 use Rattle.sed1520.specs.Command.{first}
 use Rattle.sed1520.specs.Memory.{byteAt}
-use Rattle.panel.specs.Panel.{Panel, chipAt, ramAt, outcomeOf, stepped, panelTurn, after}
-use Rattle.sed1520.specs.Laws.{Registers, registers, sent, Accepts}
+use Rattle.panel.specs.Panel.{Panel, chipAt, ramAt, outcomeOf, stepped, panelStep, after}
+use Rattle.sed1520.specs.Laws.{PaintRegisters, paintRegisters, sent, Accepts}
 use Rattle.sed1520.specs.declared.registers.Chip.{Chip}
 use Rattle.sed1520.specs.declared.bus.Record.{Record}
-use Rattle.sed1520.specs.declared.commands.Kind.the-variants.{Page, Column}
+use Rattle.sed1520.specs.declared.commands.Opcode.the-variants.{Page, Column}
 use Rattle.sed1520.proofs.CycleLaws.{cycle-laws}
 use Rattle.panel.proofs.WholePanel.{whole-fit}
-use Rattle.frame.specs.Frame.{segments, columnOf}
+use Rattle.frame.specs.Frame.{segments, ramColumn}
 use Rattle.frame.proofs.HalfLaws.{half-laws}
-use Rattle.repaint.specs.Repaint.{hiddenPage, lowestColumn, segmentOf, pictureByte, writeOf, pageRecords}
+use Rattle.repaint.specs.Repaint.{hiddenPage, lowestColumn, columnSegment, pictureByte, columnWrite, pageRecords}
 use Rattle.repaint.specs.TearFree.{Ready, BothReady}
 use Rattle.repaint.proofs.Sides.{Moved, taken, moved}
 use Rattle.repaint.proofs.Quiet.{shownPage, Quiet, ready-at, two-pages, quiet-moved}
 use Rattle.repaint.proofs.Small.{segment-small, page-small, column-small}
 use Rattle.repaint.proofs.Painting.{movedTo, Wrote, wrote}
 
--- a chip's RAM holds row r of the picture in the hidden page for it
-pub record RowHeld (c : Chip) (k : ℕ) (picture : List ℕ) (r : ℕ) (ram : List ℕ) : Type 0 where
-  pub byte : (n : ℕ) → n < segments → byteAt ram (hiddenPage c r) (columnOf c n) ≡ pictureByte picture k n r
+-- a chip's RAM holds band r of the picture in the hidden page for it
+pub record BandHeld (c : Chip) (k : ℕ) (picture : List ℕ) (r : ℕ) (ram : List ℕ) : Type 0 where
+  pub byte : (n : ℕ) → n < segments → byteAt ram (hiddenPage c r) (ramColumn c n) ≡ pictureByte picture k n r
 
 -- the hidden pages follow each other
 pages-apart : (c : Chip) (i r : ℕ) → hiddenPage c i ≡ hiddenPage c r → i ≡ r
@@ -51,14 +51,14 @@ page-hidden c ready i h r l e = ⊎-elim (λ z. at-zero z (rw z at e)) (λ z. at
     at-sixteen z e = omega arith
 
 -- segments and columns in one direction are each other's
-segment-column : (c : Chip) (n : ℕ) → n < segments → columnOf c n ≡ lowestColumn c + segmentOf c n
+segment-column : (c : Chip) (n : ℕ) → n < segments → ramColumn c n ≡ lowestColumn c + columnSegment c n
 segment-column c n h = at (c .reverse)
   where
     at : (t : Bool) → if t (79 - n) n ≡ if t (80 - segments) 0 + if t (segments - 1 - n) n
     at true = omega arith
     at false = omega arith
 
-segment-twice : (c : Chip) (n : ℕ) → n < segments → segmentOf c (segmentOf c n) ≡ n
+segment-twice : (c : Chip) (n : ℕ) → n < segments → columnSegment c (columnSegment c n) ≡ n
 segment-twice c n h = at (c .reverse)
   where
     at : (t : Bool) → if t (segments - 1 - if t (segments - 1 - n) n) (if t (segments - 1 - n) n) ≡ n
@@ -66,25 +66,25 @@ segment-twice c n h = at (c .reverse)
     at false = refl
 
 module _ (p : Panel) (ready : BothReady p) (picture : List ℕ) where
-  -- what painting row r of chip k leaves
+  -- what painting band r on chip k leaves
   pub record Painted (q s : Panel) (k r : ℕ) : Type 0 where
-    pub stops : Stops panelTurn (Quiet p) q (pageRecords (chipAt p k) k picture r)
+    pub stops : Stops panelStep (Quiet p) q (pageRecords (chipAt p k) k picture r)
     pub quiet : Quiet p s
-    pub held : RowHeld (chipAt p k) k picture r (ramAt s k)
-    pub other-page : (i : ℕ) → (i ≡ r → ⊥) → RowHeld (chipAt p k) k picture i (ramAt q k) → RowHeld (chipAt p k) k picture i (ramAt s k)
+    pub held : BandHeld (chipAt p k) k picture r (ramAt s k)
+    pub other-page : (i : ℕ) → (i ≡ r → ⊥) → BandHeld (chipAt p k) k picture i (ramAt q k) → BandHeld (chipAt p k) k picture i (ramAt s k)
     pub other-ram : (j : ℕ) → (eqb j 0 ≡ eqb k 0 → ⊥) → ramAt s j ≡ ramAt q j
 
   -- a command that sets page and column alone leaves the panel quiet
   record PlaceSet (t s : Panel) (k : ℕ) (r : Record) (page column : ℕ) : Type 0 where
     taken : outcomeOf t r .answer .number ≡ 0
-    move : Moved t s k (movedTo (registers (chipAt t k)) page column) (ramAt t k)
+    move : Moved t s k (movedTo (paintRegisters (chipAt t k)) page column) (ramAt t k)
     quiet : Quiet p s
 
   place-set : (t : Panel) (k b page column : ℕ) → Quiet p t
-      → Accepts (sent 2 k b) (chipAt t k) (ramAt t k) (movedTo (registers (chipAt t k)) page column) (ramAt t k)
+      → Accepts (sent 2 k b) (chipAt t k) (ramAt t k) (movedTo (paintRegisters (chipAt t k)) page column) (ramAt t k)
       → PlaceSet t (stepped t (sent 2 k b)) k (sent 2 k b) page column
   place-set t k b page column quiet accepts =
-      let next = movedTo (registers (chipAt t k)) page column in
+      let next = movedTo (paintRegisters (chipAt t k)) page column in
       let move = moved t (quiet .whole) (sent 2 k b) next (ramAt t k) accepts in
       record {
         taken = taken t (quiet .whole) (sent 2 k b) next (ramAt t k) accepts;
@@ -92,7 +92,7 @@ module _ (p : Panel) (ready : BothReady p) (picture : List ℕ) where
         quiet = quiet-moved p t (stepped t (sent 2 k b)) k next (ramAt t k) quiet move refl refl (λ r column h l. refl);
       }
 
-  module _ (k : ℕ) (chip : k < 2) (r : ℕ) (row : r < 2) (q : Panel) (quiet : Quiet p q) where
+  module _ (k : ℕ) (chip : k < 2) (r : ℕ) (band : r < 2) (q : Panel) (quiet : Quiet p q) where
     abbrev c : Chip
     c = chipAt p k
 
@@ -100,7 +100,7 @@ module _ (p : Panel) (ready : BothReady p) (picture : List ℕ) where
     page = hiddenPage c r
 
     near : page < 4
-    near = page-small c r row
+    near = page-small c r band
 
     -- the page
     abbrev set-page : Record
@@ -130,50 +130,50 @@ module _ (p : Panel) (ready : BothReady p) (picture : List ℕ) where
 
     -- the bytes
     abbrev byte : ℕ → ℕ
-    byte j = pictureByte picture k (segmentOf c j) r
+    byte j = pictureByte picture k (columnSegment c j) r
 
     abbrev painted-panel : Panel
-    painted-panel = after q₂ (tabulated (writeOf c k picture r) 0 segments)
+    painted-panel = after q₂ (tabulated (columnWrite c k picture r) 0 segments)
 
     hidden : (i : ℕ) → i < 2 → shownPage c i ≡ page → ⊥
-    hidden = page-hidden c (ready-at p ready k) r row
+    hidden = page-hidden c (ready-at p ready k) r band
 
-    all-wrote : Wrote p k chip (registers (chipAt q k)) page (lowestColumn c) near hidden byte q₂ painted-panel 0 segments
+    all-wrote : Wrote p k chip (paintRegisters (chipAt q k)) page (lowestColumn c) near hidden byte q₂ painted-panel 0 segments
     all-wrote =
         let from-base : lowestColumn c + 0 ≡ lowestColumn c = omega arith in
-        wrote p k chip (registers (chipAt q k)) page (lowestColumn c) near hidden byte segments 0 q₂ (at-column .quiet)
+        wrote p k chip (paintRegisters (chipAt q k)) page (lowestColumn c) near hidden byte segments 0 q₂ (at-column .quiet)
         (at-column .move .registers-after
-        ∙ rw (ap (λ (g : Registers). movedTo g (g .page) (lowestColumn c)) (on-page .move .registers-after), from-base))
+        ∙ rw (ap (λ (g : PaintRegisters). movedTo g (g .page) (lowestColumn c)) (on-page .move .registers-after), from-base))
         (omega (arith, column-small c))
 
     ram-so-far : ramAt q₂ k ≡ ramAt q k
     ram-so-far = at-column .move .ram-after ∙ on-page .move .ram-after
 
-    row-held : RowHeld c k picture r (ramAt painted-panel k)
-    row-held =
+    band-held : BandHeld c k picture r (ramAt painted-panel k)
+    band-held =
         record {
           byte = λ n h.
-              let written = all-wrote .written (segmentOf c n) (omega arith) (segment-small c n h) in
+              let written = all-wrote .written (columnSegment c n) (omega arith) (segment-small c n h) in
               rw (segment-column c n h) (written ∙ ap (λ m. pictureByte picture k m r) (segment-twice c n h));
         }
 
-    other-row : (i : ℕ) → (i ≡ r → ⊥) → RowHeld c k picture i (ramAt q k) → RowHeld c k picture i (ramAt painted-panel k)
-    other-row i d held =
+    other-band : (i : ℕ) → (i ≡ r → ⊥) → BandHeld c k picture i (ramAt q k) → BandHeld c k picture i (ramAt painted-panel k)
+    other-band i d held =
         record {
           byte = λ n h.
-              all-wrote .kept (hiddenPage c i) (columnOf c n) (half-laws .column c n h) (λ e _ _. d (pages-apart c i r e))
+              all-wrote .kept (hiddenPage c i) (ramColumn c n) (half-laws .column c n h) (λ e _ _. d (pages-apart c i r e))
               ∙ rw ram-so-far (held .byte n h);
         }
 
     pub painted : Painted q (after q (pageRecords c k picture r)) k r
     unfolding pageRecords
     painted =
-        rw (state-first panelTurn q set-page (set-column ∷ tabulated (writeOf c k picture r) 0 segments) (on-page .taken))
-        (rw (state-first panelTurn q₁ set-column (tabulated (writeOf c k picture r) 0 segments) (at-column .taken))
+        rw (state-first panelStep q set-page (set-column ∷ tabulated (columnWrite c k picture r) 0 segments) (on-page .taken))
+        (rw (state-first panelStep q₁ set-column (tabulated (columnWrite c k picture r) 0 segments) (at-column .taken))
         (record {
-          stops = stops-first panelTurn quiet (on-page .taken) (stops-first panelTurn (on-page .quiet) (at-column .taken) (all-wrote .stops));
+          stops = stops-first panelStep quiet (on-page .taken) (stops-first panelStep (on-page .quiet) (at-column .taken) (all-wrote .stops));
           quiet = all-wrote .quiet;
-          held = row-held;
-          other-page = other-row;
+          held = band-held;
+          other-page = other-band;
           other-ram = λ j e. all-wrote .other-ram j e ∙ at-column .move .other-ram j e ∙ on-page .move .other-ram j e;
         }))

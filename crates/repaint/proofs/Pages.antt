@@ -5,16 +5,16 @@ use mathlib.Core.Path.{_≡_, _∙_}
 use mathlib.Core.Bool.{true≢false, false≢true}
 use mathlib.Core.List.{List, _++_}
 use Rattle.basics.proofs.Run.{stops-join, state-join}
-use Rattle.panel.specs.Panel.{Panel, chipAt, ramAt, panelTurn, after}
+use Rattle.panel.specs.Panel.{Panel, chipAt, ramAt, panelStep, after}
 use Rattle.sed1520.specs.declared.bus.Record.{Record}
-use Rattle.repaint.specs.Repaint.{pageRecords, pagesOf}
+use Rattle.repaint.specs.Repaint.{pageRecords, hiddenPages}
 use Rattle.repaint.specs.TearFree.{BothReady}
 use Rattle.repaint.proofs.Quiet.{quiet-at-start}
-use Rattle.repaint.proofs.Page.{RowHeld, Painted, painted}
+use Rattle.repaint.proofs.Page.{BandHeld, Painted, painted}
 use Rattle.repaint.proofs.Plan.{Plan}
 
 module _ (p : Panel) (ready : BothReady p) (picture : List ℕ) where
-  -- the records of a page, by chip and row
+  -- the records of a hidden page, by chip and band
   abbrev page : ℕ → ℕ → List Record
   page k r = pageRecords (chipAt p k) k picture r
 
@@ -43,27 +43,27 @@ module _ (p : Panel) (ready : BothReady p) (picture : List ℕ) where
   fourth : Painted p ready picture p₃ p₄ 1 1
   fourth = painted p ready picture 1 (omega arith) 1 (omega arith) p₃ (third .quiet)
 
-  all-painted : after p (pagesOf (p .left) (p .right) picture) ≡ p₄
+  all-painted : after p (hiddenPages (p .left) (p .right) picture) ≡ p₄
   all-painted =
-      state-join panelTurn p (page 0 0) (page 0 1 ++ (page 1 0 ++ page 1 1)) (first .stops .done)
-      ∙ state-join panelTurn p₁ (page 0 1) (page 1 0 ++ page 1 1) (second .stops .done)
-      ∙ state-join panelTurn p₂ (page 1 0) (page 1 1) (third .stops .done)
+      state-join panelStep p (page 0 0) (page 0 1 ++ (page 1 0 ++ page 1 1)) (first .stops .done)
+      ∙ state-join panelStep p₁ (page 0 1) (page 1 0 ++ page 1 1) (second .stops .done)
+      ∙ state-join panelStep p₂ (page 1 0) (page 1 1) (third .stops .done)
 
-  rows-held : (k r : ℕ) → k < 2 → r < 2 → RowHeld (chipAt p k) k picture r (ramAt p₄ k)
-  rows-held zero zero side row =
+  bands-held : (k r : ℕ) → k < 2 → r < 2 → BandHeld (chipAt p k) k picture r (ramAt p₄ k)
+  bands-held zero zero side band =
       rw (fourth .other-ram 0 true≢false, third .other-ram 0 true≢false) (second .other-page 0 (λ e. omega arith) (first .held))
-  rows-held zero (suc zero) side row = rw (fourth .other-ram 0 true≢false, third .other-ram 0 true≢false) (second .held)
-  rows-held (suc zero) zero side row = fourth .other-page 0 (λ e. omega arith) (third .held)
-  rows-held (suc zero) (suc zero) side row = fourth .held
-  rows-held zero (suc (suc r)) side row = absurd (omega arith)
-  rows-held (suc zero) (suc (suc r)) side row = absurd (omega arith)
-  rows-held (suc (suc k)) r side row = absurd (omega arith)
+  bands-held zero (suc zero) side band = rw (fourth .other-ram 0 true≢false, third .other-ram 0 true≢false) (second .held)
+  bands-held (suc zero) zero side band = fourth .other-page 0 (λ e. omega arith) (third .held)
+  bands-held (suc zero) (suc zero) side band = fourth .held
+  bands-held zero (suc (suc r)) side band = absurd (omega arith)
+  bands-held (suc zero) (suc (suc r)) side band = absurd (omega arith)
+  bands-held (suc (suc k)) r side band = absurd (omega arith)
 
-  pub pages-plan : Plan p picture (pagesOf (p .left) (p .right) picture)
+  pub pages-plan : Plan p picture (hiddenPages (p .left) (p .right) picture)
   pages-plan =
       record {
         quiet =
-            stops-join panelTurn (first .stops)
-            (stops-join panelTurn (second .stops) (stops-join panelTurn (third .stops) (fourth .stops)));
-        held = λ k r side row. rw all-painted (rows-held k r side row);
+            stops-join panelStep (first .stops)
+            (stops-join panelStep (second .stops) (stops-join panelStep (third .stops) (fourth .stops)));
+        held = λ k r side band. rw all-painted (bands-held k r side band);
       }

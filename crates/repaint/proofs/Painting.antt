@@ -10,8 +10,8 @@ use Rattle.basics.specs.Lists.{joined, tabulated}
 use Rattle.basics.proofs.Run.{Stops, stops-none, stops-first, state-none, state-first}
 use Rattle.basics.proofs.Tests.{tested}
 use Rattle.sed1520.specs.Memory.{byteAt, byteSet}
-use Rattle.panel.specs.Panel.{Panel, chipAt, ramAt, outcomeOf, stepped, panelTurn, after}
-use Rattle.sed1520.specs.Laws.{Registers, registers, sent, Accepts}
+use Rattle.panel.specs.Panel.{Panel, chipAt, ramAt, outcomeOf, stepped, panelStep, after}
+use Rattle.sed1520.specs.Laws.{PaintRegisters, paintRegisters, sent, Accepts}
 use Rattle.sed1520.specs.declared.bus.Record.{Record}
 use Rattle.sed1520.proofs.Cells.{read-written, read-other}
 use Rattle.sed1520.proofs.CycleLaws.{cycle-laws}
@@ -19,22 +19,22 @@ use Rattle.panel.proofs.WholePanel.{whole-fit}
 use Rattle.repaint.proofs.Sides.{Moved, taken, moved}
 use Rattle.repaint.proofs.Quiet.{shownPage, Quiet, quiet-moved}
 
--- registers with another page and column
-abbrev pub movedTo : Registers → ℕ → ℕ → Registers
+-- paint registers with another page and column
+abbrev pub movedTo : PaintRegisters → ℕ → ℕ → PaintRegisters
 movedTo a page column = record { shown = a .shown; modify = a .modify; page = page; column = column }
 
 -- writes to chip k, the i-th of them to the page's column base + i
 module _
-    (p : Panel) (k : ℕ) (chip : k < 2) (a : Registers) (page base : ℕ) (near : page < 4)
+    (p : Panel) (k : ℕ) (chip : k < 2) (a : PaintRegisters) (page base : ℕ) (near : page < 4)
     (hidden : (r : ℕ) → r < 2 → shownPage (chipAt p k) r ≡ page → ⊥) (byte : ℕ → ℕ) where
   abbrev write : ℕ → Record
   write j = sent 3 k (byte j)
 
   -- what n writes from the j-th on leave
   pub record Wrote (q s : Panel) (j n : ℕ) : Type 0 where
-    pub stops : Stops panelTurn (Quiet p) q (tabulated write j n)
+    pub stops : Stops panelStep (Quiet p) q (tabulated write j n)
     pub quiet : Quiet p s
-    pub place : registers (chipAt s k) ≡ movedTo a page (base + (j + n))
+    pub place : paintRegisters (chipAt s k) ≡ movedTo a page (base + (j + n))
     pub written : (i : ℕ) → j ≤ i → i < j + n → byteAt (ramAt s k) page (base + i) ≡ byte i
     pub kept : (page′ column : ℕ) → column < 80 → (page′ ≡ page → base + j ≤ column → column < base + (j + n) → ⊥)
         → byteAt (ramAt s k) page′ column ≡ byteAt (ramAt q k) page′ column
@@ -42,16 +42,16 @@ module _
     pub other-ram : (i : ℕ) → (eqb i 0 ≡ eqb k 0 → ⊥) → ramAt s i ≡ ramAt q i
 
   -- one write
-  module _ (q : Panel) (j : ℕ) (quiet : Quiet p q) (place : registers (chipAt q k) ≡ movedTo a page (base + j)) (below : base + j < 80) where
+  module _ (q : Panel) (j : ℕ) (quiet : Quiet p q) (place : paintRegisters (chipAt q k) ≡ movedTo a page (base + j)) (below : base + j < 80) where
     abbrev bytes : List ℕ
     bytes = byteSet (ramAt q k) page (base + j) (byte j)
 
     accepts : Accepts (write j) (chipAt q k) (ramAt q k) (movedTo a page (base + j + 1)) bytes
     accepts =
-        let column = ap (λ (g : Registers). g .column) place in
-        let at-page = ap (λ (g : Registers). g .page) place in
+        let column = ap (λ (g : PaintRegisters). g .column) place in
+        let at-page = ap (λ (g : PaintRegisters). g .page) place in
         let law = cycle-laws .data-write (chipAt q k) (ramAt q k) (whole-fit q (quiet .whole) k) k chip (byte j) (omega (arith, column)) in
-        rw (ap (λ (g : Registers). movedTo g (g .page) (g .column + 1)) place, at-page, column) at law
+        rw (ap (λ (g : PaintRegisters). movedTo g (g .page) (g .column + 1)) place, at-page, column) at law
 
     write-taken : outcomeOf q (write j) .answer .number ≡ 0
     write-taken = taken q (quiet .whole) (write j) (movedTo a page (base + j + 1)) bytes accepts
@@ -66,20 +66,20 @@ module _
     write-quiet : Quiet p (stepped q (write j))
     write-quiet =
         quiet-moved p q (stepped q (write j)) k (movedTo a page (base + j + 1)) bytes quiet write-moved
-        (ap (λ (g : Registers). g .shown) place) (ap (λ (g : Registers). g .modify) place)
+        (ap (λ (g : PaintRegisters). g .shown) place) (ap (λ (g : PaintRegisters). g .modify) place)
         (λ r column h l. read-other (ramAt q k) page (base + j) (byte j) below _ column l (λ e _. hidden r h e))
 
     write-stands : byteAt (ramAt (stepped q (write j)) k) page (base + j) ≡ byte j
     write-stands = rw (write-moved .ram-after) (read-written (ramAt q k) page (base + j) (byte j) below (whole-fit q (quiet .whole) k .bytes) near)
 
-  pub wrote : (n j : ℕ) (q : Panel) → Quiet p q → registers (chipAt q k) ≡ movedTo a page (base + j) → base + (j + n) ≤ 80
+  pub wrote : (n j : ℕ) (q : Panel) → Quiet p q → paintRegisters (chipAt q k) ≡ movedTo a page (base + j) → base + (j + n) ≤ 80
       → Wrote q (after q (tabulated write j n)) j n
   unfolding joined
   wrote zero j q quiet place room =
       let none : j + 0 ≡ j = omega arith in
-      rw (state-none panelTurn q)
+      rw (state-none panelStep q)
       (record {
-        stops = stops-none panelTurn quiet;
+        stops = stops-none panelStep quiet;
         quiet = quiet;
         place = rw none place;
         written = λ i l h. absurd (omega arith);
@@ -94,9 +94,9 @@ module _
       let next : base + j + 1 ≡ base + (j + 1) = omega arith in
       let more : j + 1 + n ≡ j + suc n = omega arith in
       let rest = wrote n (j + 1) (stepped q (write j)) (write-quiet q j quiet place below) (first .registers-after ∙ rw next) (omega arith) in
-      rw (state-first panelTurn q (write j) (tabulated write (j + 1) n) accepted)
+      rw (state-first panelStep q (write j) (tabulated write (j + 1) n) accepted)
       (record {
-        stops = stops-first panelTurn quiet accepted (rest .stops);
+        stops = stops-first panelStep quiet accepted (rest .stops);
         quiet = rest .quiet;
         place = rest .place ∙ rw more;
         written = λ i l h.

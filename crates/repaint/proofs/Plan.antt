@@ -8,35 +8,35 @@ use mathlib.Core.List.{List, [], _∷_, _++_}
 use lib.ListN.{length, getD, take, replicate, length-append, length-replicate}
 use lib.Seq.{take-length, take-append-le, take-append-add}
 use Rattle.basics.proofs.Run.{Stops, stops-none, stops-first, stops-join, stops-weaker, state-none, state-first, state-join}
-use Rattle.panel.specs.Panel.{Panel, chipAt, ramAt, stepped, panelTurn, after}
+use Rattle.panel.specs.Panel.{Panel, chipAt, ramAt, stepped, panelStep, after}
 use Rattle.sed1520.specs.declared.bus.Record.{Record}
-use Rattle.frame.specs.Frame.{frameBytes, frameOf}
+use Rattle.frame.specs.Frame.{frameLength, frameOf}
 use Rattle.frame.proofs.HalfLaws.{half-laws}
-use Rattle.repaint.specs.Repaint.{pictureBytes, turn, turnsOf}
+use Rattle.repaint.specs.Repaint.{pictureLength, turn, lineTurns}
 use Rattle.repaint.specs.TearFree.{BothReady, SameHalf, wanted}
 use Rattle.repaint.proofs.Quiet.{Quiet, Still, still-ready, ready-at, quiet-at, quiet-ready, quiet-frame, half-same, halves-same}
-use Rattle.repaint.proofs.Page.{RowHeld}
+use Rattle.repaint.proofs.Page.{BandHeld}
 use Rattle.repaint.proofs.Turn.{Turned, TurnDone, turn-done, half-wanted}
 
 -- the quiet records of a plan
 pub record Plan (p : Panel) (picture : List ℕ) (hidden : List Record) : Type 0 where
-  pub quiet : Stops panelTurn (Quiet p) p hidden
-  pub held : (k r : ℕ) → k < 2 → r < 2 → RowHeld (chipAt p k) k picture r (ramAt (after p hidden) k)
+  pub quiet : Stops panelStep (Quiet p) p hidden
+  pub held : (k r : ℕ) → k < 2 → r < 2 → BandHeld (chipAt p k) k picture r (ramAt (after p hidden) k)
 
 -- what a repaint of any length does
 pub record Repaints (p : Panel) (picture : List ℕ) (n : ℕ) (records : List Record) : Type 0 where
   pub many : length records ≡ n + 2
-  pub ready : Stops panelTurn BothReady p records
+  pub ready : Stops panelStep BothReady p records
   pub before : (k : ℕ) → k ≤ n → frameOf (after p (take k records)) ≡ frameOf p
   pub turned : let t = after p (take (n + 1) records) in SameHalf 0 (frameOf t) (wanted picture) × SameHalf 1 (frameOf t) (frameOf p)
   pub whole : frameOf (after p (take (n + 2) records)) ≡ wanted picture
 
-wanted-length : (picture : List ℕ) → length picture ≡ pictureBytes → length (wanted picture) ≡ frameBytes
+wanted-length : (picture : List ℕ) → length picture ≡ pictureLength → length (wanted picture) ≡ frameLength
 wanted-length picture size =
-    length-append picture (replicate pictureBytes 0) ∙ omega (arith, size, length-replicate {A = ℕ} pictureBytes 0)
+    length-append picture (replicate pictureLength 0) ∙ omega (arith, size, length-replicate {A = ℕ} pictureLength 0)
 
 module _
-    (p : Panel) (ready : BothReady p) (picture : List ℕ) (size : length picture ≡ pictureBytes) (bytes : (i : ℕ) → getD picture i 0 < 256)
+    (p : Panel) (ready : BothReady p) (picture : List ℕ) (size : length picture ≡ pictureLength) (bytes : (i : ℕ) → getD picture i 0 < 256)
     (hidden : List Record) (plan : Plan p picture hidden) where
   -- the panel after the quiet records, after the left turn, and after the right one
   abbrev written : Panel
@@ -81,32 +81,32 @@ module _
   done-ready = record { left = left-done .ready; right = right-turn .own .ready; ram = right-turn .whole .image }
 
   abbrev turns : List Record
-  turns = turnsOf (p .left) (p .right)
+  turns = lineTurns (p .left) (p .right)
 
-  turns-ready : Stops panelTurn BothReady written turns
+  turns-ready : Stops panelStep BothReady written turns
   turns-ready =
-      stops-first panelTurn (quiet-ready p written ready quiet) (left-turn .taken)
-      (stops-first panelTurn half-way-ready (right-turn .taken) (stops-none panelTurn done-ready))
+      stops-first panelStep (quiet-ready p written ready quiet) (left-turn .taken)
+      (stops-first panelStep half-way-ready (right-turn .taken) (stops-none panelStep done-ready))
 
   -- the panel k records past the quiet ones
   last : (k : ℕ) → after p (take (length hidden + k) (hidden ++ turns)) ≡ after written (take k turns)
-  last k = rw (take-append-add hidden turns k) (state-join panelTurn p hidden (take k turns) (plan .quiet .done))
+  last k = rw (take-append-add hidden turns k) (state-join panelStep p hidden (take k turns) (plan .quiet .done))
 
   after-one : after p (take (length hidden + 1) (hidden ++ turns)) ≡ half-way
-  after-one = last 1 ∙ state-first panelTurn written (turn (p .left) 0) [] (left-turn .taken) ∙ state-none panelTurn half-way
+  after-one = last 1 ∙ state-first panelStep written (turn (p .left) 0) [] (left-turn .taken) ∙ state-none panelStep half-way
 
   after-both : after p (take (length hidden + 2) (hidden ++ turns)) ≡ done
   after-both =
       last 2
-      ∙ state-first panelTurn written (turn (p .left) 0) (turn (p .right) 1 ∷ []) (left-turn .taken)
-      ∙ state-first panelTurn half-way (turn (p .right) 1) [] (right-turn .taken)
-      ∙ state-none panelTurn done
+      ∙ state-first panelStep written (turn (p .left) 0) (turn (p .right) 1 ∷ []) (left-turn .taken)
+      ∙ state-first panelStep half-way (turn (p .right) 1) [] (right-turn .taken)
+      ∙ state-none panelStep done
 
-  pub plan-repaints : Repaints p picture (length hidden) (hidden ++ turnsOf (p .left) (p .right))
+  pub plan-repaints : Repaints p picture (length hidden) (hidden ++ lineTurns (p .left) (p .right))
   plan-repaints =
       record {
         many = length-append hidden turns;
-        ready = stops-join panelTurn (stops-weaker panelTurn (λ q quiet. quiet-ready p q ready quiet) (plan .quiet)) turns-ready;
+        ready = stops-join panelStep (stops-weaker panelStep (λ q quiet. quiet-ready p q ready quiet) (plan .quiet)) turns-ready;
         before = λ k h. rw (take-append-le k hidden turns h) (quiet-frame p (after p (take k hidden)) ready (plan .quiet .holds k h));
         turned =
             rw after-one (

@@ -12,18 +12,18 @@ use Rattle.basics.proofs.Tests.{tested, either, when}
 use Rattle.sed1520.specs.Chip.{inRange}
 use Rattle.sed1520.specs.Memory.{byteAt}
 use Rattle.panel.specs.Panel.{Panel, chipAt, ramAt}
-use Rattle.sed1520.specs.Laws.{ShownRegisters, shownBy, Registers}
+use Rattle.sed1520.specs.Laws.{ShownRegisters, shownBy, PaintRegisters}
 use Rattle.panel.specs.Panel.{Whole}
 use Rattle.sed1520.specs.declared.registers.Chip.{Chip}
 use Rattle.panel.proofs.WholePanel.{whole-fit}
-use Rattle.frame.specs.Frame.{segments, frameBytes, columnOf, frameByte, frameOf}
+use Rattle.frame.specs.Frame.{segments, frameLength, ramColumn, frameByte, frameOf}
 use Rattle.frame.specs.Laws.{TwoPages}
 use Rattle.frame.proofs.HalfLaws.{half-laws}
 use Rattle.frame.proofs.Places.{same-places}
 use Rattle.repaint.specs.TearFree.{Ready, BothReady, SameHalf}
 use Rattle.repaint.proofs.Sides.{same-side, Moved}
 
--- the page that a chip shows in the eight rows from 8 r, by its start line
+-- the page that a chip shows in band r, by its start line
 abbrev pub shownPage : Chip → ℕ → ℕ
 shownPage c r = c .«start_line» / 8 + r
 
@@ -33,7 +33,7 @@ pub record Still (c d : Chip) (ram other : List ℕ) : Type 0 where
   pub modify : c .modify ≡ d .modify
   pub kept : (r column : ℕ) → r < 2 → column < 80 → byteAt other (shownPage c r) column ≡ byteAt ram (shownPage c r) column
 
--- both halves do
+-- both halves show what they showed
 pub record Quiet (p q : Panel) : Type 0 where
   pub whole : Whole q
   pub still : (k : ℕ) → Still (chipAt p k) (chipAt q k) (ramAt p k) (ramAt q k)
@@ -58,7 +58,7 @@ two-pages c ready =
           (either (eqb (c .«start_line») 0) (eqb (c .«start_line») 16) (ready .line));
     }
 
--- what a ready chip shows, and the mode, leave a chip in range ready
+-- a chip in range with the shown registers and the mode of a ready chip is ready
 pub still-ready : (c d : Chip) → Ready c → inRange d ≡ true → shownBy c ≡ shownBy d → c .modify ≡ d .modify → Ready d
 still-ready c d ready range shown modify =
     record {
@@ -89,7 +89,7 @@ module _ (c d : Chip) (ram other : List ℕ) (ready : Ready c) (after : Ready d)
   upper-same h =
       let column = ap (λ (s : ShownRegisters). s .reverse) (still .shown) in
       let line = ap (λ (s : ShownRegisters). s .line) (still .shown) in
-      let kept = still .kept r (columnOf c n) h (half-laws .column c n segment) in
+      let kept = still .kept r (ramColumn c n) h (half-laws .column c n segment) in
       half-laws .upper d other n r (two-pages d after) h
       ∙ rw (← line, ← column, kept) (sym (half-laws .upper c ram n r (two-pages c ready) h))
 
@@ -112,13 +112,13 @@ half-same p q k ready after still =
     }
 
 -- every place of a frame lies in a half
-pub halves-same : (one other : List ℕ) → SameHalf 0 one other → SameHalf 1 one other → length one ≡ frameBytes → length other ≡ frameBytes
+pub halves-same : (one other : List ℕ) → SameHalf 0 one other → SameHalf 1 one other → length one ≡ frameLength → length other ≡ frameLength
     → one ≡ other
 halves-same one other left right h l =
-    same-places one other h l (λ k n r side segment row.
+    same-places one other h l (λ k n r side segment band.
     ⊎-elim
-    (λ t. let e : k ≡ 0 = omega (arith, ltb-true k 1 t) in rw e (left .at n r segment row))
-    (λ t. let e : k ≡ 1 = omega (arith, ltb-false k 1 t) in rw e (right .at n r segment row))
+    (λ t. let e : k ≡ 0 = omega (arith, ltb-true k 1 t) in rw e (left .at n r segment band))
+    (λ t. let e : k ≡ 1 = omega (arith, ltb-false k 1 t) in rw e (right .at n r segment band))
     (tested (ltb k 1)))
 
 pub quiet-frame : (p q : Panel) → BothReady p → Quiet p q → frameOf q ≡ frameOf p
@@ -129,7 +129,7 @@ quiet-frame p q ready quiet =
     half k = half-same p q k (ready-at p ready k) (quiet-at p q ready quiet k) (quiet .still k)
 
 -- a record that leaves what its chip shows, its mode and the shown bytes leaves the panel quiet
-pub quiet-moved : (p q s : Panel) (k : ℕ) (next : Registers) (bytes : List ℕ) → Quiet p q → Moved q s k next bytes
+pub quiet-moved : (p q s : Panel) (k : ℕ) (next : PaintRegisters) (bytes : List ℕ) → Quiet p q → Moved q s k next bytes
     → shownBy (chipAt q k) ≡ next .shown → chipAt q k .modify ≡ next .modify
     → ((r column : ℕ) → r < 2 → column < 80 → byteAt bytes (shownPage (chipAt p k) r) column ≡ byteAt (ramAt q k) (shownPage (chipAt p k) r) column)
     → Quiet p s
@@ -147,7 +147,7 @@ quiet-moved p q s k next bytes quiet move shown modify kept =
     own =
         let still = quiet .still k in
         record {
-          shown = still .shown ∙ shown ∙ ap (λ (g : Registers). g .shown) (sym (move .registers-after));
-          modify = still .modify ∙ modify ∙ ap (λ (g : Registers). g .modify) (sym (move .registers-after));
+          shown = still .shown ∙ shown ∙ ap (λ (g : PaintRegisters). g .shown) (sym (move .registers-after));
+          modify = still .modify ∙ modify ∙ ap (λ (g : PaintRegisters). g .modify) (sym (move .registers-after));
           kept = λ r column h l. rw (move .ram-after) (kept r column h l ∙ still .kept r column h l);
         }

@@ -8,7 +8,7 @@ use lib.ListN.{length, drop}
 use Rattle.basics.specs.Verdict.{verdict, result}
 use Rattle.sed1520.specs.declared.registers.Chip.{Chip}
 use Rattle.sed1520.specs.Records.{recordsBytes}
-use Rattle.repaint.specs.Repaint.{recordsOf, repaintSizesWrong, wrongLine, repaintOf}
+use Rattle.repaint.specs.Repaint.{repaintRecords, repaintSizesWrong, wrongLine, repaintOf}
 use Rattle.repaint.specs.TearFree.{Ready}
 
 -- a ready chip's start line is not between
@@ -22,7 +22,7 @@ line-right c ready = right (eqb (c .«start_line») 0) (eqb (c .«start_line») 
 
 pub ready-outcome : (left right : Chip) → Ready left → Ready right
     → (picture buffer : List ℕ) → repaintSizesWrong (length picture) (length buffer) ≡ false
-    → repaintOf left right picture buffer ≡ result (verdict 0 254) (recordsBytes (recordsOf left right picture) ++ drop 1016 buffer)
+    → repaintOf left right picture buffer ≡ result (verdict 0 254) (recordsBytes (repaintRecords left right picture) ++ drop 1016 buffer)
 unfolding repaintOf
 ready-outcome left right l r picture buffer sizes =
     let left-line = line-right left l in

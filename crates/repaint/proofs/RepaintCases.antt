@@ -16,22 +16,22 @@ use Rattle.basics.proofs.Table.{first-refuses, none-refuses, refusing-line, pas
 use Rattle.basics.proofs.Tests.{tested, neither}
 use Rattle.sed1520.specs.Records.{recordsBytes}
 use Rattle.sed1520.specs.declared.registers.Chip.{Chip}
-use Rattle.frame.proofs.TableCalls.{call-exactly, call-place}
+use Rattle.basics.proofs.Table.{call-exactly, call-place}
 use Rattle.repaint.specs.Numbers.{RepaintNumbers}
-use Rattle.repaint.specs.Repaint.{pictureBytes, recordsOf, repaintSizesWrong, readyTable, chipsVerdict, repaintTable, repaintOf}
-use Rattle.repaint.specs.TearFree.{SizesTold}
+use Rattle.repaint.specs.Repaint.{pictureLength, repaintRecords, repaintSizesWrong, readyTable, chipsVerdict, repaintTable, repaintOf}
+use Rattle.repaint.specs.TearFree.{SizesInNumbers}
 
-pub sizes-right : (picture buffer : ℕ) → repaintSizesWrong picture buffer ≡ false → (picture ≡ pictureBytes) × (1016 ≤ buffer)
+pub sizes-right : (picture buffer : ℕ) → repaintSizesWrong picture buffer ≡ false → (picture ≡ pictureLength) × (1016 ≤ buffer)
 unfolding repaintSizesWrong
 sizes-right picture buffer e =
-    let right = neither (not (eqb picture pictureBytes)) (ltb buffer 1016) e in
-    (eqb-true picture pictureBytes (not-false (eqb picture pictureBytes) (right .0)), ltb-false buffer 1016 (right .1))
+    let right = neither (not (eqb picture pictureLength)) (ltb buffer 1016) e in
+    (eqb-true picture pictureLength (not-false (eqb picture pictureLength) (right .0)), ltb-false buffer 1016 (right .1))
 
-pub sizes-told : SizesTold
+pub sizes-in-numbers : SizesInNumbers
 unfolding repaintSizesWrong
-sizes-told =
+sizes-in-numbers =
     record {
-      right = λ picture buffer p b. rw (eq-eqb picture pictureBytes p, le-ltb buffer 1016 b);
+      right = λ picture buffer p b. rw (eq-eqb picture pictureLength p, le-ltb buffer 1016 b);
       wrong = λ picture buffer h.
           ⊎-elim
           (λ t. t)
@@ -45,7 +45,7 @@ module _ (left right : Chip) (picture buffer : List ℕ) where
   table = repaintTable left right (length picture) (length buffer)
 
   abbrev given : Result Verdict (List ℕ)
-  given = result (verdict 0 254) (recordsBytes (recordsOf left right picture) ++ drop 1016 buffer)
+  given = result (verdict 0 254) (recordsBytes (repaintRecords left right picture) ++ drop 1016 buffer)
 
   -- every place fits 16 bits
   pub places-small : repaintOf left right picture buffer .answer .place < 65536

@@ -6,7 +6,7 @@ use mathlib.Core.List.{List}
 use mathlib.Core.Logic.{_⊎_, inl, inr}
 use lib.Dec.{eqb}
 use Rattle.panel.specs.Panel.{Panel, chipAt, ramAt, outcomeOf, stepped}
-use Rattle.sed1520.specs.Laws.{Registers, registers, Accepts}
+use Rattle.sed1520.specs.Laws.{PaintRegisters, paintRegisters, Accepts}
 use Rattle.panel.specs.Panel.{Whole}
 use Rattle.sed1520.specs.declared.bus.Record.{Record}
 use Rattle.panel.proofs.PanelLaws.{every-record-apart, stepped-whole}
@@ -21,16 +21,16 @@ same-side j k = sides (eqb j 0) (eqb k 0)
     sides false true = inr false≢true
     sides false false = inl refl
 
--- the panel after a record to chip k: that side has these registers and bytes, the other side is as it was
-pub record Moved (p q : Panel) (k : ℕ) (next : Registers) (bytes : List ℕ) : Type 0 where
-  pub registers-after : registers (chipAt q k) ≡ next
+-- the panel after a record to chip k: that side has these paint registers and bytes, the other side is as it was
+pub record Moved (p q : Panel) (k : ℕ) (next : PaintRegisters) (bytes : List ℕ) : Type 0 where
+  pub registers-after : paintRegisters (chipAt q k) ≡ next
   pub ram-after : ramAt q k ≡ bytes
   pub whole : Whole q
   pub other-chip : (j : ℕ) → (eqb j 0 ≡ eqb k 0 → ⊥) → chipAt q j ≡ chipAt p j
   pub other-ram : (j : ℕ) → (eqb j 0 ≡ eqb k 0 → ⊥) → ramAt q j ≡ ramAt p j
 
 module _
-    (p : Panel) (whole : Whole p) (r : Record) (next : Registers) (bytes : List ℕ)
+    (p : Panel) (whole : Whole p) (r : Record) (next : PaintRegisters) (bytes : List ℕ)
     (accepts : Accepts r (chipAt p (r .chip)) (ramAt p (r .chip)) next bytes) where
   pub taken : outcomeOf p r .answer .number ≡ 0
   taken = rw (every-record-apart p (whole .image) r .own-cycle) (accepts .number)

@@ -5,9 +5,9 @@ use lib.Dec.{eqb}
 use Rattle.sed1520.specs.declared.registers.Chip.{Chip}
 use Rattle.basics.proofs.Tests.{when}
 use Rattle.frame.specs.Frame.{segments}
-use Rattle.repaint.specs.Repaint.{hiddenPage, lowestColumn, segmentOf, turnedLine}
+use Rattle.repaint.specs.Repaint.{hiddenPage, lowestColumn, columnSegment, turnedLine}
 
-pub segment-small : (c : Chip) (j : ℕ) → j < segments → segmentOf c j < segments
+pub segment-small : (c : Chip) (j : ℕ) → j < segments → columnSegment c j < segments
 segment-small c j h = when (λ (n : ℕ). n < segments) (c .reverse) (λ _. omega arith) (λ _. omega arith)
 
 pub page-small : (c : Chip) (r : ℕ) → r < 2 → hiddenPage c r < 4

@@ -9,13 +9,13 @@ use lib.ListN.{length, getD, take, drop}
 use Rattle.basics.specs.Verdict.{verdict, result}
 use Rattle.basics.proofs.Run.{accepted-at}
 use Rattle.basics.proofs.Tests.{tested}
-use Rattle.panel.specs.Panel.{Panel, outcomeOf, panelTurn, after}
+use Rattle.panel.specs.Panel.{Panel, outcomeOf, panelStep, after}
 use Rattle.sed1520.specs.Records.{recordsBytes, front}
 use Rattle.sed1520.specs.declared.bus.Record.{Record}
 use Rattle.panel.proofs.PanelLaws.{every-place}
 use Rattle.sed1520.proofs.Records.{records-back, record-back}
 use Rattle.frame.specs.Frame.{frameOf}
-use Rattle.repaint.specs.Repaint.{pictureBytes, pagesOf, recordsOf, repaintSizesWrong, repaintOf}
+use Rattle.repaint.specs.Repaint.{pictureLength, hiddenPages, repaintRecords, repaintSizesWrong, repaintOf}
 use Rattle.repaint.specs.TearFree.{BothReady, Request, asked, sentSoFar, leaves, shown}
 use Rattle.repaint.specs.TearFree.{Refused, Accepted, Safe, AllSafe, TearFree}
 use Rattle.repaint.proofs.Frames.{shown-frame, frame-given}
@@ -32,13 +32,13 @@ module _ (p : Panel) (ready : BothReady p) (q : Request) where
 
   module _ (sizes : repaintSizesWrong (length (q .picture)) (length (q .buffer)) ≡ false) where
     abbrev records : List Record
-    records = recordsOf (p .left) (p .right) (q .picture)
+    records = repaintRecords (p .left) (p .right) (q .picture)
 
     -- the repaint is a plan of 254 records
     repaints : Repaints p (q .picture) 252 records
-    unfolding recordsOf
+    unfolding repaintRecords
     repaints =
-        let pages = pagesOf (p .left) (p .right) (q .picture) in
+        let pages = hiddenPages (p .left) (p .right) (q .picture) in
         let size = sizes-right (length (q .picture)) (length (q .buffer)) sizes .0 in
         rw (pages-length (p .left) (p .right) (q .picture))
         at (plan-repaints p ready (q .picture) size (q .bytes) pages (pages-plan p ready (q .picture)))
@@ -54,7 +54,7 @@ module _ (p : Panel) (ready : BothReady p) (q : Request) where
     cycle k h =
         let within : k < length records = omega (arith, repaints .many) in
         rw (stop k (omega arith), outcome, record-back records (drop 1016 (q .buffer)) (front []) k within)
-        (accepted-at panelTurn (front []) records p (repaints .ready .done) k within)
+        (accepted-at panelStep (front []) records p (repaints .ready .done) k within)
 
     ready-at-stop : (k : ℕ) → k ≤ 254 → BothReady (sentSoFar p q k)
     ready-at-stop k h = rw (stop k h) (repaints .ready .holds k (omega (arith, repaints .many)))

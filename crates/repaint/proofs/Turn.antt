@@ -1,4 +1,4 @@
--- A start line turned, on either chip: the half then shows its rows of the picture, dark below, and its chip is ready again.
+-- A start line turned, on either chip: the half then shows its part of the picture, dark below, and its chip is ready again.
 use Prim.Native.Nat.{ℕ, _+_, _-_, _/_, _%_, _<_, _≤_}
 use native.Mathlib.Omega.{arith}
 use mathlib.Core.Path.{_≡_, refl, sym, ap, _∙_}
@@ -14,28 +14,28 @@ use Rattle.basics.proofs.Tests.{tested, when}
 use Rattle.sed1520.specs.Chip.{withStartLine}
 use Rattle.sed1520.specs.Memory.{byteAt}
 use Rattle.panel.specs.Panel.{Panel, chipAt, ramAt, outcomeOf, stepped}
-use Rattle.sed1520.specs.Laws.{ShownRegisters, Registers, registers, Accepts}
+use Rattle.sed1520.specs.Laws.{ShownRegisters, PaintRegisters, paintRegisters, Accepts}
 use Rattle.panel.specs.Panel.{Whole}
 use Rattle.sed1520.specs.declared.registers.Chip.{Chip}
 use Rattle.sed1520.proofs.CycleLaws.{cycle-laws}
 use Rattle.panel.proofs.WholePanel.{whole-fit}
-use Rattle.frame.specs.Frame.{segments, columnOf, frameByte, frameOf, framePlace}
+use Rattle.frame.specs.Frame.{segments, ramColumn, frameByte, frameOf, framePlace}
 use Rattle.frame.specs.Laws.{TwoPages}
 use Rattle.frame.proofs.HalfLaws.{half-laws}
 use Rattle.frame.proofs.Places.{place-laws}
-use Rattle.repaint.specs.Repaint.{hiddenPage, pictureByte, pictureBytes, turnedLine, turn}
+use Rattle.repaint.specs.Repaint.{hiddenPage, pictureByte, pictureLength, turnedLine, turn}
 use Rattle.repaint.specs.TearFree.{Ready, SameHalf, wanted}
 use Rattle.repaint.proofs.Sides.{Moved, taken, moved}
 use Rattle.repaint.proofs.Quiet.{shownPage, Still, two-pages}
 use Rattle.repaint.proofs.Small.{line-small}
-use Rattle.repaint.proofs.Page.{RowHeld}
+use Rattle.repaint.proofs.Page.{BandHeld}
 
--- a chip d that was c before its start line turned, with both rows of its half in RAM
+-- a chip d that was c before its start line turned, with both bands of the picture's half in RAM
 pub record Turned (c : Chip) (k : ℕ) (picture : List ℕ) (d : Chip) (ram : List ℕ) : Type 0 where
   pub ready : Ready d
   pub line : d .«start_line» ≡ turnedLine c
   pub reverse : d .reverse ≡ c .reverse
-  pub rows : (r : ℕ) → r < 2 → RowHeld c k picture r ram
+  pub bands : (r : ℕ) → r < 2 → BandHeld c k picture r ram
 
 -- the turned start line shows the hidden pages
 turned-page : (c : Chip) (r : ℕ) → turnedLine c / 8 + r ≡ hiddenPage c r
@@ -46,33 +46,33 @@ turned-page c r = at (eqb (c .«start_line») 0)
     at false = omega arith
 
 -- the upper bytes of the frame that a picture asks for are the picture's, the lower ones 0
-module _ (picture : List ℕ) (size : length picture ≡ pictureBytes) (k n : ℕ) (segment : n < segments) where
+module _ (picture : List ℕ) (size : length picture ≡ pictureLength) (k n : ℕ) (segment : n < segments) where
   upper-wanted : (r : ℕ) → r < 2 → getD (wanted picture) (framePlace k n r) 0 ≡ pictureByte picture k n r
   upper-wanted r h =
       let below = place-laws .below k n r 2 segment h in
-      List·getD-append picture (replicate pictureBytes 0) 0 (framePlace k n r) (omega arith)
+      List·getD-append picture (replicate pictureLength 0) 0 (framePlace k n r) (omega arith)
 
   lower-wanted : (r : ℕ) → r < 4 → 2 ≤ r → getD (wanted picture) (framePlace k n r) 0 ≡ 0
   lower-wanted r h l =
       let two : r ≡ 2 + (r - 2) = omega arith in
-      let past = rw size at (getD-append-add picture (replicate pictureBytes 0) (framePlace k n (r - 2)) 0) in
+      let past = rw size at (getD-append-add picture (replicate pictureLength 0) (framePlace k n (r - 2)) 0) in
       rw (two, place-laws .further k n (r - 2) 2)
-      (past ∙ getD-replicate pictureBytes (framePlace k n (r - 2)) 0 0 (place-laws .below k n (r - 2) 2 segment (omega arith)))
+      (past ∙ getD-replicate pictureLength (framePlace k n (r - 2)) 0 0 (place-laws .below k n (r - 2) 2 segment (omega arith)))
 
--- such a half is wanted
+-- a half whose start line is turned shows what the picture asks for
 module _
-    (c : Chip) (k : ℕ) (picture : List ℕ) (size : length picture ≡ pictureBytes) (bytes : (i : ℕ) → getD picture i 0 < 256)
+    (c : Chip) (k : ℕ) (picture : List ℕ) (size : length picture ≡ pictureLength) (bytes : (i : ℕ) → getD picture i 0 < 256)
     (d : Chip) (ram : List ℕ) (turned : Turned c k picture d ram) (n r : ℕ) (segment : n < segments) where
   pages : TwoPages d
   pages = two-pages d (turned .ready)
 
-  row-shown : r < 2 → byteAt ram (shownPage d r) (columnOf d n) ≡ pictureByte picture k n r
-  row-shown h = rw (turned .line, turned .reverse, turned-page c r) (turned .rows r h .byte n segment)
+  band-shown : r < 2 → byteAt ram (shownPage d r) (ramColumn d n) ≡ pictureByte picture k n r
+  band-shown h = rw (turned .line, turned .reverse, turned-page c r) (turned .bands r h .byte n segment)
 
   upper : r < 2 → frameByte d ram n r ≡ getD (wanted picture) (framePlace k n r) 0
   upper h =
       let byte : pictureByte picture k n r % 256 ≡ pictureByte picture k n r = omega (arith, bytes (framePlace k n r)) in
-      half-laws .upper d ram n r pages h ∙ rw (row-shown h) byte ∙ sym (upper-wanted picture size k n segment r h)
+      half-laws .upper d ram n r pages h ∙ rw (band-shown h) byte ∙ sym (upper-wanted picture size k n segment r h)
 
   wanted-byte : r < 4 → frameByte d ram n r ≡ getD (wanted picture) (framePlace k n r) 0
   wanted-byte h =
@@ -81,7 +81,7 @@ module _
       (λ t. let l = ltb-false r 2 t in half-laws .lower d ram n r pages l ∙ sym (lower-wanted picture size k n segment r h l))
       (tested (ltb r 2))
 
-pub half-wanted : (c : Chip) (k : ℕ) (picture : List ℕ) → length picture ≡ pictureBytes → ((i : ℕ) → getD picture i 0 < 256) → (t : Panel)
+pub half-wanted : (c : Chip) (k : ℕ) (picture : List ℕ) → length picture ≡ pictureLength → ((i : ℕ) → getD picture i 0 < 256) → (t : Panel)
     → Turned c k picture (chipAt t k) (ramAt t k) → SameHalf k (frameOf t) (wanted picture)
 half-wanted c k picture size bytes t turned =
     record { at = λ n r h l. half-laws .place t k n r h l ∙ wanted-byte c k picture size bytes (chipAt t k) (ramAt t k) turned n r h l }
@@ -96,9 +96,9 @@ pub record TurnDone (c : Chip) (k : ℕ) (picture : List ℕ) (q s : Panel) : Ty
 
 module _
     (c : Chip) (ready : Ready c) (k : ℕ) (chip : k < 2) (picture : List ℕ) (q : Panel) (whole : Whole q)
-    (ram : List ℕ) (still : Still c (chipAt q k) ram (ramAt q k)) (rows : (r : ℕ) → r < 2 → RowHeld c k picture r (ramAt q k)) where
-  abbrev next : Registers
-  next = registers (withStartLine (turnedLine c) (chipAt q k))
+    (ram : List ℕ) (still : Still c (chipAt q k) ram (ramAt q k)) (bands : (r : ℕ) → r < 2 → BandHeld c k picture r (ramAt q k)) where
+  abbrev next : PaintRegisters
+  next = paintRegisters (withStartLine (turnedLine c) (chipAt q k))
 
   accepts : Accepts (turn c k) (chipAt q k) (ramAt q k) next (ramAt q k)
   accepts = cycle-laws .start-line-set (chipAt q k) (ramAt q k) (whole-fit q whole k) k chip (turnedLine c) (line-small c)
@@ -110,14 +110,14 @@ module _
   turned-ready =
       let after = move .registers-after in
       let shown = sym (still .shown) in
-      let line = ap (λ (g : Registers). g .shown .line) after in
+      let line = ap (λ (g : PaintRegisters). g .shown .line) after in
       record {
         range = whole-fit (stepped q (turn c k)) (move .whole) k .range;
-        display = ap (λ (g : Registers). g .shown .display) after ∙ ap (λ (s : ShownRegisters). s .display) shown ∙ ready .display;
-        static = ap (λ (g : Registers). g .shown .static) after ∙ ap (λ (s : ShownRegisters). s .static) shown ∙ ready .static;
-        duty = ap (λ (g : Registers). g .shown .duty) after ∙ ap (λ (s : ShownRegisters). s .duty) shown ∙ ready .duty;
+        display = ap (λ (g : PaintRegisters). g .shown .display) after ∙ ap (λ (s : ShownRegisters). s .display) shown ∙ ready .display;
+        static = ap (λ (g : PaintRegisters). g .shown .static) after ∙ ap (λ (s : ShownRegisters). s .static) shown ∙ ready .static;
+        duty = ap (λ (g : PaintRegisters). g .shown .duty) after ∙ ap (λ (s : ShownRegisters). s .duty) shown ∙ ready .duty;
         line = rw line (when (λ n. (eqb n 0 || eqb n 16) ≡ true) (eqb (c .«start_line») 0) (λ _. refl) (λ _. refl));
-        modify = ap (λ (g : Registers). g .modify) after ∙ sym (still .modify) ∙ ready .modify;
+        modify = ap (λ (g : PaintRegisters). g .modify) after ∙ sym (still .modify) ∙ ready .modify;
       }
 
   pub turn-done : TurnDone c k picture q (stepped q (turn c k))
@@ -127,9 +127,9 @@ module _
         taken = taken q whole (turn c k) next (ramAt q k) accepts;
         own = record {
           ready = turned-ready;
-          line = ap (λ (g : Registers). g .shown .line) after;
-          reverse = ap (λ (g : Registers). g .shown .reverse) after ∙ ap (λ (s : ShownRegisters). s .reverse) (sym (still .shown));
-          rows = λ r h. rw (move .ram-after) (rows r h);
+          line = ap (λ (g : PaintRegisters). g .shown .line) after;
+          reverse = ap (λ (g : PaintRegisters). g .shown .reverse) after ∙ ap (λ (s : ShownRegisters). s .reverse) (sym (still .shown));
+          bands = λ r h. rw (move .ram-after) (bands r h);
         };
         whole = move .whole;
         other-chip = move .other-chip;

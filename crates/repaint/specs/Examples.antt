@@ -9,7 +9,7 @@ use Rattle.frame.specs.Examples.{FrameExamples}
 use Rattle.repaint.specs.Repaint.{repaintSizesWrong, repaintOf}
 use Rattle.repaint.specs.TearFree.{Ready}
 
--- the setting of P12: both ready, both start lines 0, left chip reverse; picture and output buffer of the right sizes
+-- the setting of P12: both chips ready, both start lines 0, left chip reverse; picture and output buffer of the right sizes
 pub record LeftReverse (left right : Chip) (picture buffer : List ℕ) : Type 0 where
   pub left-ready : Ready left
   pub right-ready : Ready right
@@ -18,7 +18,7 @@ pub record LeftReverse (left right : Chip) (picture buffer : List ℕ) : Type 0 
   pub reverse : left .reverse ≡ true
   pub sizes : repaintSizesWrong (length picture) (length buffer) ≡ false
 
--- P1 to P11, and P12: the first two records and the last two
+-- examples P1 to P11, and of P12 the first two records and the last two
 pub record Examples : Type 0 where
   pub frame : FrameExamples
   pub p12-first : (left right : Chip) (picture buffer : List ℕ) → LeftReverse left right picture buffer

@@ -15,10 +15,30 @@ use Rattle.sed1520.specs.Laws.{sent}
 use Rattle.sed1520.specs.Records.{recordsBytes}
 use Rattle.sed1520.specs.declared.registers.Chip.{Chip}
 use Rattle.sed1520.specs.declared.bus.Record.{Record}
-use Rattle.sed1520.specs.declared.commands.Kind.the-variants.{StartLine, Page, Column}
+use Rattle.sed1520.specs.declared.commands.Opcode.the-variants.{StartLine, Page, Column}
 use Rattle.frame.specs.Frame.{segments, columns, framePlace}
 
--- the hidden page that takes row r of the picture: 2 or 3 at start line 0, 0 or 1 at 16
+-- how many bytes the data writes of one hidden page are: 244
+abbrev pub writesLength : ℕ
+writesLength = 4 * segments
+
+-- how many bytes the records of one hidden page are, its page set and column set before its data writes: 252
+abbrev pub pageLength : ℕ
+pageLength = 8 + writesLength
+
+-- how many records come before the first start line turns, 63 for each of four hidden pages: 252
+abbrev pub quietCycles : ℕ
+quietCycles = 4 * (2 + segments)
+
+-- how many records a repaint has, two start lines turned last: 254
+abbrev pub repaintCycles : ℕ
+repaintCycles = quietCycles + 2
+
+-- how many bytes the records of a repaint are: 1,016
+abbrev pub outputLength : ℕ
+outputLength = 4 * repaintCycles
+
+-- the hidden page that takes band r of the picture: 2 or 3 at start line 0, 0 or 1 at 16
 abbrev pub hiddenPage : Chip → ℕ → ℕ
 hiddenPage c r = if (eqb (c .«start_line») 0) (2 + r) r
 
@@ -26,51 +46,51 @@ hiddenPage c r = if (eqb (c .«start_line») 0) (2 + r) r
 abbrev pub lowestColumn : Chip → ℕ
 lowestColumn c = if (c .reverse) (columnStop - segments) 0
 
--- the segment that is shown from the j-th of these columns
-abbrev pub segmentOf : Chip → ℕ → ℕ
-segmentOf c j = if (c .reverse) (segments - 1 - j) j
+-- the segment that is shown from the j-th column, counted from the lowest
+abbrev pub columnSegment : Chip → ℕ → ℕ
+columnSegment c j = if (c .reverse) (segments - 1 - j) j
 
--- the picture's byte of a chip's segment n in row r
+-- the picture's byte of a chip's segment n in band r
 abbrev pub pictureByte : List ℕ → ℕ → ℕ → ℕ → ℕ
 pictureByte picture chip n r = getD picture (framePlace chip n r) 0
 
--- the data write of the j-th of these columns
-abbrev pub writeOf : Chip → ℕ → List ℕ → ℕ → ℕ → Record
-writeOf c chip picture r j = sent 3 chip (pictureByte picture chip (segmentOf c j) r)
+-- the data write of band r to the j-th column, counted from the lowest
+abbrev pub columnWrite : Chip → ℕ → List ℕ → ℕ → ℕ → Record
+columnWrite c chip picture r j = sent 3 chip (pictureByte picture chip (columnSegment c j) r)
 
--- a hidden page: page, column, 61 data writes
+-- the records that write band r of the picture to its hidden page: page set, column set, 61 data writes
 unfoldable pub pageRecords : Chip → ℕ → List ℕ → ℕ → List Record
 pageRecords c chip picture r =
-    sent 2 chip (first Page + hiddenPage c r) ∷ sent 2 chip (first Column + lowestColumn c) ∷ tabulated (writeOf c chip picture r) 0 segments
+    sent 2 chip (first Page + hiddenPage c r) ∷ sent 2 chip (first Column + lowestColumn c) ∷ tabulated (columnWrite c chip picture r) 0 segments
 
--- the start line turned from 0 to 16 or from 16 to 0
+-- a chip's start line turned from 0 to 16 or from 16 to 0
 abbrev pub turnedLine : Chip → ℕ
 turnedLine c = if (eqb (c .«start_line») 0) 16 0
 
--- the record that turns it
+-- the record that turns a chip's start line
 abbrev pub turn : Chip → ℕ → Record
 turn c chip = sent 2 chip (first StartLine + turnedLine c)
 
--- both hidden pages of the left chip, then of the right
-abbrev pub pagesOf : Chip → Chip → List ℕ → List Record
-pagesOf left right picture =
+-- the records of both hidden pages of the left chip, then of the right one
+abbrev pub hiddenPages : Chip → Chip → List ℕ → List Record
+hiddenPages left right picture =
     pageRecords left 0 picture 0 ++ (pageRecords left 0 picture 1 ++ (pageRecords right 1 picture 0 ++ pageRecords right 1 picture 1))
 
--- the left start line, then the right
-abbrev pub turnsOf : Chip → Chip → List Record
-turnsOf left right = turn left 0 ∷ turn right 1 ∷ []
+-- the records that turn the left start line, then the right one
+abbrev pub lineTurns : Chip → Chip → List Record
+lineTurns left right = turn left 0 ∷ turn right 1 ∷ []
 
--- the 254 records
-unfoldable pub recordsOf : Chip → Chip → List ℕ → List Record
-recordsOf left right picture = pagesOf left right picture ++ turnsOf left right
+-- the 254 records of a repaint
+unfoldable pub repaintRecords : Chip → Chip → List ℕ → List Record
+repaintRecords left right picture = hiddenPages left right picture ++ lineTurns left right
 
--- the bytes of a picture: 244
-abbrev pub pictureBytes : ℕ
-pictureBytes = columns * 2
+-- how many bytes a picture is, bands 0 and 1: 244
+abbrev pub pictureLength : ℕ
+pictureLength = columns * 2
 
 -- number 1: a picture that is not 244 bytes, an output buffer (document 01: the room) under 1,016
 unfoldable pub repaintSizesWrong : ℕ → ℕ → Bool
-repaintSizesWrong picture buffer = not (eqb picture pictureBytes) || ltb buffer 1016
+repaintSizesWrong picture buffer = not (eqb picture pictureLength) || ltb buffer outputLength
 
 -- number 9: display off, or static drive on
 abbrev pub showsNoRam : Chip → Bool
@@ -91,7 +111,7 @@ readyTable left right =
 
 -- the verdict on two chips: the first number that holds of one of them, or 0 with the 254 records as place
 unfoldable pub chipsVerdict : Chip → Chip → Verdict
-chipsVerdict left right = verdictBy (readyTable left right) (verdict 0 254)
+chipsVerdict left right = verdictBy (readyTable left right) (verdict 0 repaintCycles)
 
 -- the numbers of a repaint, by both chips and the lengths of picture and output buffer
 abbrev pub repaintTable : Chip → Chip → ℕ → ℕ → List Cause
@@ -101,4 +121,4 @@ repaintTable left right picture buffer = cause 1 0 (repaintSizesWrong picture bu
 unfoldable pub repaintOf : Chip → Chip → List ℕ → List ℕ → Result Verdict (List ℕ)
 repaintOf left right picture buffer =
     unlessRefused (repaintTable left right (length picture) (length buffer)) (λ n at. result (verdict n at) buffer)
-    (result (verdict 0 254) (recordsBytes (recordsOf left right picture) ++ drop 1016 buffer))
+    (result (verdict 0 repaintCycles) (recordsBytes (repaintRecords left right picture) ++ drop outputLength buffer))

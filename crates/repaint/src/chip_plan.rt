@@ -5,11 +5,12 @@ ghost use mathlib.Core.List.{_++_};
 ghost use lib.ListN.{length, drop};
 ghost use Rattle.basics.specs.Lists.{tabulated};
 ghost use Rattle.sed1520.specs.Records.{recordBytes, recordsBytes};
-ghost use Rattle.repaint.specs.Repaint.{hiddenPage, lowestColumn, segmentOf, pictureByte, pictureBytes, writeOf, pageRecords, turnedLine, turn};
+ghost use Rattle.repaint.specs.Repaint.{writesLength, pageLength, hiddenPage, lowestColumn, columnSegment, pictureByte};
+ghost use Rattle.repaint.specs.Repaint.{pictureLength, columnWrite, pageRecords, turnedLine, turn};
 ghost use Rattle.sed1520.specs.Laws.{sent};
 ghost use Rattle.frame.specs.Frame.{segments};
 use frame::place::place;
-use sed1520::commands::Kind;
+use sed1520::commands::Opcode;
 use sed1520::registers::Chip;
 
 // The 4 bytes of a record.
@@ -23,12 +24,12 @@ fn put_record(lines: u8, which: u8, byte: u8, output: &mut [u8])
     output[3] = 0;
 }
 
-// The hidden page that takes a row of the picture.
-fn hidden_page(chip: Chip, row: u8) -> u8
-    requires { ⌜ row < 2 ⌝ }
-    ensures { λ r. ⌜ r ≡ hiddenPage chip row ⌝ }
+// The hidden page that takes a band of the picture.
+fn hidden_page(chip: Chip, band: u8) -> u8
+    requires { ⌜ band < 2 ⌝ }
+    ensures { λ r. ⌜ r ≡ hiddenPage chip band ⌝ }
 {
-    if chip.start_line == 0 { 2 + row } else { row }
+    if chip.start_line == 0 { 2 + band } else { band }
 }
 
 // The lowest RAM column that a segment is shown from in reverse.
@@ -41,10 +42,10 @@ fn lowest_column(chip: Chip) -> u8
     if chip.reverse { LOWEST_IN_REVERSE } else { 0 }
 }
 
-// The segment that is shown from the j-th of these columns.
-fn segment_of(chip: Chip, j: usize) -> usize
+// The segment that is shown from the j-th column, counted from the lowest.
+fn column_segment(chip: Chip, j: usize) -> usize
     requires { ⌜ j < segments ⌝ }
-    ensures { λ r. ⌜ r ≡ segmentOf chip j ⌝ }
+    ensures { λ r. ⌜ r ≡ columnSegment chip j ⌝ }
 {
     if chip.reverse {
         Chip::SEGMENTS - 1 - j
@@ -53,52 +54,53 @@ fn segment_of(chip: Chip, j: usize) -> usize
     }
 }
 
-// The picture's byte of a chip's segment in a row.
-fn picture_byte(picture: &[u8], which: u8, n: usize, row: u8) -> u8
-    requires { ⌜ length (now picture) ≡ pictureBytes ⌝ }
+// The picture's byte of a chip's segment in a band.
+fn picture_byte(picture: &[u8], which: u8, n: usize, band: u8) -> u8
+    requires { ⌜ length (now picture) ≡ pictureLength ⌝ }
     requires { ⌜ n < segments ⌝ }
-    requires { ⌜ row < 2 ⌝ }
-    ensures { λ r. ⌜ r ≡ pictureByte (now (picture .entry)) which n row ⌝ }
+    requires { ⌜ band < 2 ⌝ }
+    ensures { λ r. ⌜ r ≡ pictureByte (now (picture .entry)) which n band ⌝ }
 {
-    picture[place(which, n as u8, row)]
+    picture[place(which, n as u8, band)]
 }
 
 // The data writes of a page.
-fn put_writes(chip: Chip, which: u8, picture: &[u8], row: u8, output: &mut [u8])
-    requires { ⌜ length (now picture) ≡ pictureBytes ⌝ }
-    requires { ⌜ row < 2 ⌝ }
-    requires { ⌜ 244 ≤ length (now output) ⌝ }
+fn put_writes(chip: Chip, which: u8, picture: &[u8], band: u8, output: &mut [u8])
+    requires { ⌜ length (now picture) ≡ pictureLength ⌝ }
+    requires { ⌜ band < 2 ⌝ }
+    requires { ⌜ writesLength ≤ length (now output) ⌝ }
     ensures { λ _. ⌜ now (output .exit)
-        ≡ recordsBytes (tabulated (writeOf chip which (now (picture .entry)) row) 0 segments) ++ drop 244 (now (output .entry)) ⌝ }
+        ≡ recordsBytes (tabulated (columnWrite chip which (now (picture .entry)) band) 0 segments) ++ drop writesLength (now (output .entry)) ⌝ }
 {
     let mut j = 0;
     while j < Chip::SEGMENTS {
-        let byte = picture_byte(picture, which, segment_of(chip, j), row);
+        let byte = picture_byte(picture, which, column_segment(chip, j), band);
         put_record(3, which, byte, &mut output[4 * j..]);
         j = j + 1;
     }
 }
 
 // A hidden page: its number, its lowest column, its bytes.
-pub(crate) fn put_page(chip: Chip, which: u8, picture: &[u8], row: u8, output: &mut [u8])
-    requires { ⌜ length (now picture) ≡ pictureBytes ⌝ }
-    requires { ⌜ row < 2 ⌝ }
-    requires { ⌜ 252 ≤ length (now output) ⌝ }
-    ensures { λ _. ⌜ now (output .exit) ≡ recordsBytes (pageRecords chip which (now (picture .entry)) row) ++ drop 252 (now (output .entry)) ⌝ }
+pub(crate) fn put_page(chip: Chip, which: u8, picture: &[u8], band: u8, output: &mut [u8])
+    requires { ⌜ length (now picture) ≡ pictureLength ⌝ }
+    requires { ⌜ band < 2 ⌝ }
+    requires { ⌜ pageLength ≤ length (now output) ⌝ }
+    ensures { λ _. ⌜ now (output .exit)
+        ≡ recordsBytes (pageRecords chip which (now (picture .entry)) band) ++ drop pageLength (now (output .entry)) ⌝ }
 {
     put_record(
         2,
         which,
-        Kind::Page.first() + hidden_page(chip, row),
+        Opcode::Page.first() + hidden_page(chip, band),
         output,
     );
     put_record(
         2,
         which,
-        Kind::Column.first() + lowest_column(chip),
+        Opcode::Column.first() + lowest_column(chip),
         &mut output[4..],
     );
-    put_writes(chip, which, picture, row, &mut output[8..]);
+    put_writes(chip, which, picture, band, &mut output[8..]);
 }
 
 // The start line turned from 0 to 16 or from 16 to 0.
@@ -108,7 +110,7 @@ fn turned_line(chip: Chip) -> u8
     if chip.start_line == 0 { 16 } else { 0 }
 }
 
-// The record that turns it.
+// The record that turns a chip's start line.
 pub(crate) fn put_turn(chip: Chip, which: u8, output: &mut [u8])
     requires { ⌜ 4 ≤ length (now output) ⌝ }
     ensures { λ _. ⌜ now (output .exit) ≡ recordBytes (turn chip which) ++ drop 4 (now (output .entry)) ⌝ }
@@ -116,7 +118,7 @@ pub(crate) fn put_turn(chip: Chip, which: u8, output: &mut [u8])
     put_record(
         2,
         which,
-        Kind::StartLine.first() + turned_line(chip),
+        Opcode::StartLine.first() + turned_line(chip),
         output,
     );
 }

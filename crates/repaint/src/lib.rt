@@ -7,20 +7,28 @@ ghost use mathlib.Core.List.{_++_};
 ghost use lib.ListN.{length, drop};
 ghost use Rattle.basics.specs.Verdict.{result};
 ghost use Rattle.sed1520.specs.Records.{recordsBytes};
-ghost use Rattle.repaint.specs.Repaint.{pictureBytes, recordsOf, repaintSizesWrong, showsNoRam, wrongLine, chipsVerdict, repaintOf};
-use basics::verdict::Verdict;
+ghost use Rattle.repaint.specs.Repaint.{outputLength, pictureLength, repaintRecords, repaintSizesWrong, showsNoRam, wrongLine};
+ghost use Rattle.repaint.specs.Repaint.{chipsVerdict, repaintOf};
 use crate::chip_plan::put_page;
 use crate::chip_plan::put_turn;
+use basics::verdict::Verdict;
+use sed1520::bus::RECORD_BYTES;
 use sed1520::registers::Chip;
 
 // The bytes of a picture.
 pub const PICTURE_BYTES: usize = 2 * Chip::PANEL_WIDTH;
 
-// The bytes of 254 records.
-pub const OUTPUT_BYTES: usize = 4 * PAGE_BYTES + 8;
+// The bytes of the 254 records of a repaint.
+pub const OUTPUT_BYTES: usize = RECORD_BYTES * REPAINT_RECORDS;
 
-// The bytes of a hidden page's 63 records.
-const PAGE_BYTES: usize = 4 * (2 + Chip::SEGMENTS);
+// The records of a repaint: those of four hidden pages, then two start lines turned.
+const REPAINT_RECORDS: usize = 4 * PAGE_RECORDS + 2;
+
+// The records of a hidden page: page set, column set and a data write for each segment.
+const PAGE_RECORDS: usize = 2 + Chip::SEGMENTS;
+
+// The bytes of the records of a hidden page.
+const PAGE_BYTES: usize = RECORD_BYTES * PAGE_RECORDS;
 
 // Number 1: a picture that is not 244 bytes, or an output buffer under 1,016.
 fn sizes_wrong(picture: usize, output: usize) -> bool
@@ -54,12 +62,12 @@ fn wrong_line(chip: Chip) -> bool
     }
 }
 
-// Numbers 2 and 9 to 12, lowest first, left before right; else done. Built from the last test to the first: each value is the answer
-// from its number on.
+// Numbers 2 and 9 to 12, lowest first, left before right; else done. Built from the last test to the first: each value is
+// the answer from its number on.
 fn chips_verdict(left: Chip, right: Chip) -> Verdict
     ensures { λ r. ⌜ r ≡ chipsVerdict left right ⌝ }
 {
-    let done = Verdict::new(0, 254);
+    let done = Verdict::new(0, REPAINT_RECORDS as u64);
     let modify = Verdict::unless(left.modify, right.modify, 12, done);
     let line = Verdict::unless(wrong_line(left), wrong_line(right), 11, modify);
     let duty = Verdict::unless(left.duty_32, right.duty_32, 10, line);
@@ -67,11 +75,12 @@ fn chips_verdict(left: Chip, right: Chip) -> Verdict
     Verdict::unless(!left.in_range(), !right.in_range(), 2, dark)
 }
 
-// The 254 records.
+// The 254 records of a repaint, written to the front of the output buffer.
 fn put_records(left: Chip, right: Chip, picture: &[u8], output: &mut [u8])
-    requires { ⌜ length (now picture) ≡ pictureBytes ⌝ }
-    requires { ⌜ 1016 ≤ length (now output) ⌝ }
-    ensures { λ _. ⌜ now (output .exit) ≡ recordsBytes (recordsOf left right (now (picture .entry))) ++ drop 1016 (now (output .entry)) ⌝ }
+    requires { ⌜ length (now picture) ≡ pictureLength ⌝ }
+    requires { ⌜ outputLength ≤ length (now output) ⌝ }
+    ensures { λ _. ⌜ now (output .exit)
+        ≡ recordsBytes (repaintRecords left right (now (picture .entry))) ++ drop outputLength (now (output .entry)) ⌝ }
 {
     put_page(left, 0, picture, 0, output);
     put_page(left, 0, picture, 1, &mut output[PAGE_BYTES..]);

@@ -7,12 +7,12 @@ use mathlib.Core.List.{List}
 use lib.ListN.{length}
 use Rattle.basics.specs.Lists.{joined}
 use Rattle.basics.proofs.Lists.{joined-more}
-use Rattle.replay.specs.Text.{lineAt, linesOf, Put}
+use Rattle.replay.specs.Text.{lineAt, answerLines, Put}
 use Rattle.replay.proofs.Digits.{put-more}
 
 -- the text so far
 pub record Lines (before now answers : List ℕ) (count at index : ℕ) : Type 0 where
-  pub so-far : Put before now 0 at (linesOf answers index)
+  pub so-far : Put before now 0 at (answerLines answers index)
   pub within : index ≤ count
   pub short : at ≤ 45 * index
   pub size : length now ≡ length before

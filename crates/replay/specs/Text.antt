@@ -10,7 +10,7 @@ use lib.Seq.{sets}
 use Rattle.basics.specs.Choice.{if}
 use Rattle.basics.specs.Lists.{joined}
 use Rattle.sed1520.specs.Chip.{fresh}
-use Rattle.panel.specs.Panel.{Panel, panelOf}
+use Rattle.panel.specs.Panel.{imageLength, Panel, asPanel}
 use Rattle.trace.specs.Replay.{ReplayOutcome, replayOf}
 
 -- the decimal digits of a number that has at most so many, in ASCII, no zeros in front
@@ -19,51 +19,52 @@ decimal zero n = []
 decimal (suc most) n = if (ltb n 10) ((48 + n) ∷ []) (decimal most (n / 10) ++ ((48 + n % 10) ∷ []))
 
 -- a number in decimal: no 64-bit number has more than twenty digits
-abbrev pub decimalOf : ℕ → List ℕ
-decimalOf n = decimal 20 n
+abbrev pub decimalDigits : ℕ → List ℕ
+decimalDigits n = decimal 20 n
 
 -- a hexadecimal digit: 0 to 9, A to F
 unfoldable pub hexDigit : ℕ → ℕ
 hexDigit n = if (ltb n 10) (48 + n) (55 + n)
 
 -- a byte as two hexadecimal digits
-abbrev pub hexOf : ℕ → List ℕ
-hexOf b = hexDigit (b / 16) ∷ hexDigit (b % 16) ∷ []
+abbrev pub hexDigits : ℕ → List ℕ
+hexDigits b = hexDigit (b / 16) ∷ hexDigit (b % 16) ∷ []
 
 -- the line of an answer; 32 is a space, 10 the end of a line
-unfoldable pub lineOf : ℕ → ℕ → ℕ → List ℕ
-lineOf index kind byte = decimalOf index ++ ((32 ∷ decimalOf kind) ++ (32 ∷ hexOf byte ++ (10 ∷ [])))
+unfoldable pub answerLine : ℕ → ℕ → ℕ → List ℕ
+answerLine index kind byte = decimalDigits index ++ ((32 ∷ decimalDigits kind) ++ (32 ∷ hexDigits byte ++ (10 ∷ [])))
 
 -- the end line: "end" and four numbers
-unfoldable pub endOf : ℕ → ℕ → ℕ → ℕ → List ℕ
-endOf number place compared differing =
-    101 ∷ 110 ∷ 100 ∷ (32 ∷ decimalOf number) ++ ((32 ∷ decimalOf place) ++ ((32 ∷ decimalOf compared) ++ ((32 ∷ decimalOf differing) ++ (10 ∷ []))))
+unfoldable pub endLine : ℕ → ℕ → ℕ → ℕ → List ℕ
+endLine number place compared differing =
+    101 ∷ 110 ∷ 100 ∷ (32 ∷ decimalDigits number) ++
+    ((32 ∷ decimalDigits place) ++ ((32 ∷ decimalDigits compared) ++ ((32 ∷ decimalDigits differing) ++ (10 ∷ []))))
 
 -- the line of the answer to a record, two bytes in the answer buffer
 abbrev pub lineAt : List ℕ → ℕ → List ℕ
-lineAt answers index = lineOf index (getD answers (2 * index) 0) (getD answers (2 * index + 1) 0)
+lineAt answers index = answerLine index (getD answers (2 * index) 0) (getD answers (2 * index + 1) 0)
 
 -- the lines of the first n answers
-abbrev pub linesOf : List ℕ → ℕ → List ℕ
-linesOf answers n = joined (lineAt answers) 0 n
+abbrev pub answerLines : List ℕ → ℕ → List ℕ
+answerLines answers n = joined (lineAt answers) 0 n
 
 -- how many answers a replay gave, by its number and place: none where it was refused before its first record
-abbrev pub givenOf : ℕ → ℕ → ℕ
-givenOf number place = if (leb 1 number && leb number 3) 0 place
+abbrev pub answersGiven : ℕ → ℕ → ℕ
+answersGiven number place = if (leb 1 number && leb number 3) 0 place
 
 -- the text of a replay
-unfoldable pub textOf : ReplayOutcome → List ℕ
-textOf o =
+unfoldable pub replayText : ReplayOutcome → List ℕ
+replayText o =
     let a = o .answer in
-    linesOf (o .lent .answers) (givenOf (a .number) (a .place)) ++ endOf (a .number) (a .place) (a .compared) (a .differing)
+    answerLines (o .lent .answers) (answersGiven (a .number) (a .place)) ++ endLine (a .number) (a .place) (a .compared) (a .differing)
 
--- fresh chips, RAM all 0
+-- the panel that the program begins with: fresh chips, RAM all 0
 abbrev pub start : Panel
-start = panelOf fresh fresh (replicate 640 0)
+start = asPanel fresh fresh (replicate imageLength 0)
 
--- what the program prints for the bytes that it read; two answer bytes for each of 16,384 records are room for any trace
+-- what the program prints for the bytes that it read; two answer bytes for each of 16,384 records are room for any trace that number 1 lets pass
 unfoldable pub programText : List ℕ → List ℕ
-programText trace = textOf (replayOf start trace (replicate 32768 0))
+programText trace = replayText (replayOf start trace (replicate 32768 0))
 
 -- what putting some bytes at a place of a buffer leaves, and the place past them
 pub record Put (before after : List ℕ) (at next : ℕ) (bytes : List ℕ) : Type 0 where

@@ -4,25 +4,27 @@ mod text;
 ghost use Prim.Native.Nat.{_≤_};
 ghost use mathlib.Core.Path.{_≡_};
 ghost use lib.ListN.{length, replicate};
-ghost use Rattle.replay.specs.Text.{givenOf, programText, Put};
+ghost use Rattle.panel.specs.Panel.{imageLength};
+ghost use Rattle.replay.specs.Text.{answersGiven, programText, Put};
 ghost use Rattle.replay.specs.Input.{readIn};
 use crate::text::put_end;
 use crate::text::put_lines;
 use libc::STDIN_FILENO;
 use libc::STDOUT_FILENO;
+use panel::chips::IMAGE_BYTES;
 use sed1520::registers::Chip;
 
 // One byte more than a trace may have, so that a longer one is seen to be too long.
 type TraceBytes = [u8; 65537];
 
-// Two for each record of the longest trace.
+// Two answer bytes for each record of the longest trace.
 type AnswerBytes = [u8; 32768];
 
 // Enough for 16,384 lines of at most 45 bytes and the end line.
 type TextBytes = [u8; 737368];
 
 // The RAM of both chips.
-type Image = [u8; 640];
+type Image = [u8; IMAGE_BYTES];
 
 // What reading standard input came to: so many bytes, or a read that failed.
 enum Input {
@@ -53,14 +55,14 @@ fn text_buffer() -> TextBytes
 
 // The RAM of both chips, all 0.
 fn blank_image() -> Image
-    ensures { λ r. ⌜ r ≡ replicate 640 0 ⌝ }
+    ensures { λ r. ⌜ r ≡ replicate imageLength 0 ⌝ }
 {
-    [0; 640]
+    [0; IMAGE_BYTES]
 }
 
 // How many answers a replay gave.
 fn given_in(number: u8, place: u64) -> usize
-    ensures { λ r. ⌜ r ≡ givenOf number place ⌝ }
+    ensures { λ r. ⌜ r ≡ answersGiven number place ⌝ }
 {
     if number == 0 {
         return place as usize;

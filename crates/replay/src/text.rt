@@ -3,7 +3,7 @@ ghost use Prim.Native.Nat.{_+_, _*_, _<_, _≤_};
 ghost use mathlib.Core.Path.{_≡_};
 ghost use mathlib.Core.List.{[], _∷_, _++_};
 ghost use lib.ListN.{length};
-ghost use Rattle.replay.specs.Text.{decimal, decimalOf, hexDigit, hexOf, lineOf, endOf, linesOf, Put};
+ghost use Rattle.replay.specs.Text.{decimal, decimalDigits, hexDigit, hexDigits, answerLine, endLine, answerLines, Put};
 
 // Puts the decimal digits of a number that has at most so many.
 fn put_digits(out: &mut [u8], at: usize, n: u64, most: usize) -> usize
@@ -25,7 +25,7 @@ fn put_digits(out: &mut [u8], at: usize, n: u64, most: usize) -> usize
 // A space and a number.
 fn put_next(out: &mut [u8], at: usize, n: u64) -> usize
     requires { ⌜ at + 21 ≤ length (now out) ⌝ }
-    ensures { λ r. ⌜ Put (now (out .entry)) (now (out .exit)) at r (32 ∷ decimalOf n) ⌝ }
+    ensures { λ r. ⌜ Put (now (out .entry)) (now (out .exit)) at r (32 ∷ decimalDigits n) ⌝ }
     ensures { λ r. ⌜ r ≤ at + 21 ⌝ }
 {
     out[at] = 32;
@@ -43,7 +43,7 @@ fn hex_digit(n: u8) -> u8
 // A space, a byte in hexadecimal and the end of the line.
 fn put_hex(out: &mut [u8], at: usize, byte: u8) -> usize
     requires { ⌜ at + 4 ≤ length (now out) ⌝ }
-    ensures { λ r. ⌜ Put (now (out .entry)) (now (out .exit)) at r (32 ∷ hexOf byte ++ (10 ∷ [])) ⌝ }
+    ensures { λ r. ⌜ Put (now (out .entry)) (now (out .exit)) at r (32 ∷ hexDigits byte ++ (10 ∷ [])) ⌝ }
 {
     out[at] = 32;
     out[at + 1] = hex_digit(byte / 16);
@@ -55,7 +55,7 @@ fn put_hex(out: &mut [u8], at: usize, byte: u8) -> usize
 // The line of an answer.
 fn put_line(out: &mut [u8], at: usize, index: u64, kind: u8, byte: u8) -> usize
     requires { ⌜ at + 45 ≤ length (now out) ⌝ }
-    ensures { λ r. ⌜ Put (now (out .entry)) (now (out .exit)) at r (lineOf index kind byte) ⌝ }
+    ensures { λ r. ⌜ Put (now (out .entry)) (now (out .exit)) at r (answerLine index kind byte) ⌝ }
     ensures { λ r. ⌜ r ≤ at + 45 ⌝ }
 {
     let first = put_digits(out, at, index, 20);
@@ -67,7 +67,7 @@ fn put_line(out: &mut [u8], at: usize, index: u64, kind: u8, byte: u8) -> usize
 pub(crate) fn put_lines(out: &mut [u8], answers: &[u8], count: usize) -> usize
     requires { ⌜ 45 * count ≤ length (now out) ⌝ }
     requires { ⌜ 2 * count ≤ length (now answers) ⌝ }
-    ensures { λ r. ⌜ Put (now (out .entry)) (now (out .exit)) 0 r (linesOf (now (answers .entry)) count) ⌝ }
+    ensures { λ r. ⌜ Put (now (out .entry)) (now (out .exit)) 0 r (answerLines (now (answers .entry)) count) ⌝ }
     ensures { λ r. ⌜ r ≤ 45 * count ⌝ }
 {
     let mut at = 0;
@@ -95,7 +95,7 @@ pub(crate) fn put_end(
     differing: u64,
 ) -> usize
     requires { ⌜ at + 88 ≤ length (now out) ⌝ }
-    ensures { λ r. ⌜ Put (now (out .entry)) (now (out .exit)) at r (endOf number place compared differing) ⌝ }
+    ensures { λ r. ⌜ Put (now (out .entry)) (now (out .exit)) at r (endLine number place compared differing) ⌝ }
     ensures { λ r. ⌜ r ≤ at + 88 ⌝ }
 {
     out[at] = b'e';

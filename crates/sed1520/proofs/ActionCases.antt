@@ -9,7 +9,7 @@ use lib.ListN.{getD, set}
 use borrow.Author.Tests.{lt-ltb, le-ltb, ne-eqb}
 use Rattle.basics.proofs.Tests.{when}
 use Rattle.sed1520.specs.Chip.{stale, staled, withColumn, withLatch}
-use Rattle.sed1520.specs.Command.{decodeOf, toldCommand}
+use Rattle.sed1520.specs.Command.{decodeOf, codedCommand}
 use Rattle.sed1520.specs.Memory.{ramIndex}
 use Rattle.sed1520.specs.Cycle.{Outcome, outcome, refusal, answered, execute, columnRefusal, commandWrite, dataWrite, afterRead}
 use Rattle.sed1520.specs.declared.registers.Chip.{Chip}
@@ -19,15 +19,15 @@ use Rattle.sed1520.specs.declared.commands.Decoded.{Decoded}
 use Rattle.sed1520.specs.declared.commands.Decoded.the-variants.{Known, Unknown}
 
 -- what the cases of a decoded byte say
-pub known-command : (d : Decoded) (b : ℕ) (m : Command) → toldCommand d ≡ decodeOf b → d ≡ Known m → decodeOf b .value ≡ some m
+pub known-command : (d : Decoded) (b : ℕ) (m : Command) → codedCommand d ≡ decodeOf b → d ≡ Known m → decodeOf b .value ≡ some m
 known-command d b m e k = rw (← e, k)
 
-pub no-command : (d : Decoded) (b at : ℕ) → toldCommand d ≡ decodeOf b → d ≡ Unknown at → decodeOf b .value ≡ none
+pub no-command : (d : Decoded) (b at : ℕ) → codedCommand d ≡ decodeOf b → d ≡ Unknown at → decodeOf b .value ≡ none
 no-command d b at e k = rw (← e, k)
 
 module _ (b : ℕ) (c : Chip) where
   pub command-executed : (m : Command) → decodeOf b .value ≡ some m → columnRefusal b (c .modify) ≡ 0
-      → commandWrite b c ≡ answered 0 0 (execute (m .kind) (m .argument) c)
+      → commandWrite b c ≡ answered 0 0 (execute (m .opcode) (m .argument) c)
   unfolding commandWrite
   command-executed m known free = rw (known, free)
 

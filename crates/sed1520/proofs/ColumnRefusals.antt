@@ -11,7 +11,7 @@ use Rattle.basics.proofs.Tests.{tested}
 use Rattle.sed1520.specs.Chip.{columnStop}
 use Rattle.sed1520.specs.Command.{count}
 use Rattle.sed1520.specs.Cycle.{columnRefusal}
-use Rattle.sed1520.specs.declared.commands.Kind.the-variants.{Column}
+use Rattle.sed1520.specs.declared.commands.Opcode.the-variants.{Column}
 
 module _ (b : ℕ) (modify : Bool) where
   -- a byte that sets no column is not refused for it

@@ -1,4 +1,4 @@
--- Which column sets a chip takes, and that number 14 is given for its cause alone.
+-- Which column sets a chip accepts, and that number 14 is given for its cause alone.
 use Prim.Native.Nat.{ℕ, _+_, _<_}
 use native.Mathlib.Omega.{arith}
 use mathlib.Core.Path.{_≡_, refl, ap, sym, _∙_}
@@ -10,13 +10,13 @@ use borrow.Author.Tests.{eqb-true, leb-true, ltb-true, not-false}
 use Rattle.basics.proofs.Tests.{both, no-other}
 use Rattle.sed1520.specs.Chip.{columnStop, inRange}
 use Rattle.sed1520.specs.ColumnPromises.{ColumnSet, SetsMissingColumn, ColumnSets}
-use Rattle.sed1520.specs.Command.{first, count, within, Told}
+use Rattle.sed1520.specs.Command.{first, count, within, Coded}
 use Rattle.sed1520.specs.Cycle.{outcome, refusal, execute, columnRefusal, busRefusal, cycleOf}
 use Rattle.sed1520.specs.CycleNumbers.{writesCommand}
 use Rattle.sed1520.specs.Laws.{sent, Fit}
 use Rattle.sed1520.specs.declared.registers.Chip.{Chip}
 use Rattle.sed1520.specs.declared.commands.Command.{Command}
-use Rattle.sed1520.specs.declared.commands.Kind.the-variants.{Column}
+use Rattle.sed1520.specs.declared.commands.Opcode.the-variants.{Column}
 use Rattle.sed1520.specs.declared.bus.Record.{Record}
 use Rattle.sed1520.proofs.ActionCases.{command-refused}
 use Rattle.sed1520.proofs.ColumnRefusals.{column-locked, column-missing, column-taken}
@@ -30,7 +30,7 @@ module _ (c : Chip) (ram : List ℕ) (fit : Fit c ram) (k : ℕ) (addressed : k 
   refused-set : (number : ℕ) → columnRefusal (first Column + n) (c .modify) ≡ number → (number ≡ 0 → ⊥)
       → cycleOf (sent 2 k (first Column + n)) c ram ≡ outcome (refusal number c) ram
   refused-set number e held =
-      let known = ap (λ (t : Told Command). t .value) (decoded-argument Column n set) in
+      let known = ap (λ (t : Coded Command). t .value) (decoded-argument Column n set) in
       action-cycle c ram fit k addressed 2 (first Column + n) (omega arith) (omega arith)
       ∙ action-command 2 (first Column + n) c ram refl
       ∙ rw (command-refused (first Column + n) c _ known (λ none. held (sym e ∙ none)), e)
@@ -40,7 +40,7 @@ module _ (c : Chip) (ram : List ℕ) (fit : Fit c ram) (k : ℕ) (addressed : k 
   column-set =
       let b = first Column + n in
       record {
-        told-alone = decoded-argument Column n set;
+        alone = decoded-argument Column n set;
         locked = λ on. refused-set 8 (column-locked b (c .modify) (omega arith) on) (λ e. absurd (omega arith));
         missing = λ off beyond. refused-set 14 (column-missing b (c .modify) (omega arith) off (omega arith)) (λ e. absurd (omega arith));
         taken = λ off there. command-cycle c ram fit k addressed Column n set (column-taken b (c .modify) (omega arith) off (omega arith));

@@ -1,5 +1,5 @@
--- Laws of the rule between commands and bytes: what `among` gives is the same over a span of bytes in which no kind's range begins or ends, so a
--- byte of a kind's range is told as that kind, and each way between commands and bytes undoes the other.
+-- Laws of the rule between commands and bytes: what `among` gives is the same over a span of bytes in which no opcode's range begins or ends, so a
+-- byte of an opcode's range is decoded as that opcode, and each way between commands and bytes undoes the other.
 use Prim.Native.Nat.{ℕ, _+_, _-_, _≤_, _<_}
 use native.Mathlib.Omega.{arith}
 use mathlib.Core.Path.{_≡_, refl, ap}
@@ -11,45 +11,45 @@ use lib.Dec.{ltb, leb, eqb}
 use borrow.Author.Needs.{needs}
 use borrow.Author.Tests.{lt-ltb, le-ltb, le-leb, lt-leb, leb-true, ltb-true, eqb-true}
 use Rattle.basics.proofs.Tests.{tested, either, both}
-use Rattle.sed1520.specs.Command.{first, count, kinds, within, among}
-use Rattle.sed1520.specs.declared.commands.Kind.{Kind}
-use Rattle.sed1520.specs.declared.commands.Kind.the-variants.{Display, StartLine, Page, Column, Adc, Static, Duty, Modify, End, Reset}
+use Rattle.sed1520.specs.Command.{first, count, opcodes, within, among}
+use Rattle.sed1520.specs.declared.commands.Opcode.{Opcode}
+use Rattle.sed1520.specs.declared.commands.Opcode.the-variants.{Display, StartLine, Page, Column, Adc, Static, Duty, Modify, End, Reset}
 
--- no byte from lo to hi lies in the range of k
-abbrev pub apart : ℕ → ℕ → Kind → Bool
+-- no byte from lo to hi lies in the range of opcode k
+abbrev pub apart : ℕ → ℕ → Opcode → Bool
 apart lo hi k = ltb hi (first k) || leb (first k + count k) lo
 
--- nor in the range of any kind listed
-abbrev pub apartFrom : ℕ → ℕ → List Kind → Bool
+-- no byte from lo to hi lies in the range of any opcode listed
+abbrev pub apartFrom : ℕ → ℕ → List Opcode → Bool
 apartFrom lo hi [] = true
 apartFrom lo hi (k ∷ ks) = apart lo hi k && apartFrom lo hi ks
 
-outside : (k : Kind) (lo hi b : ℕ) → lo ≤ b → b ≤ hi → (apart lo hi k) ≡ true → within k b ≡ false
+outside : (k : Opcode) (lo hi b : ℕ) → lo ≤ b → b ≤ hi → (apart lo hi k) ≡ true → within k b ≡ false
 outside k lo hi b l h t =
     ⊎-elim
     (λ below. let p = ltb-true hi (first k) below in simp (lt-leb (first k) b (omega arith)))
     (λ above. let p = leb-true (first k + count k) lo above in simp (le-ltb b (first k + count k) (omega arith), and-false))
     (either (ltb hi (first k)) (leb (first k + count k) lo) t)
 
-pub none-between : (ks : List Kind) (lo hi b : ℕ) → lo ≤ b → b ≤ hi → (apartFrom lo hi ks) ≡ true → among ks b ≡ none
+pub none-between : (ks : List Opcode) (lo hi b : ℕ) → lo ≤ b → b ≤ hi → (apartFrom lo hi ks) ≡ true → among ks b ≡ none
 unfolding among
 none-between [] lo hi b l h t = refl
 none-between (k ∷ ks) lo hi b l h t =
     let p = both (apart lo hi k) (apartFrom lo hi ks) t in
     rw (outside k lo hi b l h (p .0), none-between ks lo hi b l h (p .1))
 
--- where the kind stands in the list, and no kind before it shares a byte with it
-abbrev reached : Kind → List Kind → Bool
+-- where the opcode stands in the list, and no opcode before it shares a byte with it
+abbrev reached : Opcode → List Opcode → Bool
 reached k [] = false
 reached k (j ∷ js) = eqb (first j) (first k) || (apart (first k) (first k + count k - 1) j && reached k js)
 
--- what is computed of each kind: the list reaches it, its first byte is told as it, and its last one fits a byte
-record Computed (k : Kind) : Type 0 where
-  listed : reached k kinds ≡ true
-  at-first : among kinds (first k) ≡ some k
+-- what is computed of each opcode: the list reaches it, its first byte is decoded as it, and its last one fits a byte
+record Computed (k : Opcode) : Type 0 where
+  listed : reached k opcodes ≡ true
+  at-first : among opcodes (first k) ≡ some k
   below-256 : first k + count k ≤ 256
 
-computed : (k : Kind) → Computed k
+computed : (k : Opcode) → Computed k
 unfolding among
 computed Display = search needs
 computed StartLine = search needs
@@ -62,10 +62,10 @@ computed Modify = search needs
 computed End = search needs
 computed Reset = search needs
 
-first-injective : (j k : Kind) → first j ≡ first k → j ≡ k
-first-injective j k e = cc (computed j .at-first, computed k .at-first, ap (among kinds) e)
+first-injective : (j k : Opcode) → first j ≡ first k → j ≡ k
+first-injective j k e = cc (computed j .at-first, computed k .at-first, ap (among opcodes) e)
 
-first-found : (k : Kind) (ks : List Kind) (b : ℕ) → first k ≤ b → b < first k + count k → (reached k ks) ≡ true → among ks b ≡ some k
+first-found : (k : Opcode) (ks : List Opcode) (b : ℕ) → first k ≤ b → b < first k + count k → (reached k ks) ≡ true → among ks b ≡ some k
 unfolding among
 first-found k [] b l h t = absurd (false≢true t)
 first-found k (j ∷ js) b l h t =
@@ -75,22 +75,22 @@ first-found k (j ∷ js) b l h t =
     rw (outside j (first k) (first k + count k - 1) b l (omega arith) (p .0), first-found k js b l h (p .1)))
     (either (eqb (first j) (first k)) (apart (first k) (first k + count k - 1) j && reached k js) t)
 
--- a byte of a kind's range is told as that kind
-pub kind-in-range : (k : Kind) (b : ℕ) → first k ≤ b → b < first k + count k → among kinds b ≡ some k
-kind-in-range k b l h = first-found k kinds b l h (computed k .listed)
+-- a byte of an opcode's range is decoded as that opcode
+pub opcode-in-range : (k : Opcode) (b : ℕ) → first k ≤ b → b < first k + count k → among opcodes b ≡ some k
+opcode-in-range k b l h = first-found k opcodes b l h (computed k .listed)
 
--- and a byte is told as no other
-pub range-of-kind : (ks : List Kind) (k : Kind) (b : ℕ) → among ks b ≡ some k → (first k ≤ b) × (b < first k + count k)
+-- and a byte is decoded as no other opcode
+pub range-of-opcode : (ks : List Opcode) (k : Opcode) (b : ℕ) → among ks b ≡ some k → (first k ≤ b) × (b < first k + count k)
 unfolding among
-range-of-kind [] k b e = absurd (none-ne-some k e)
-range-of-kind (j ∷ js) k b e =
+range-of-opcode [] k b e = absurd (none-ne-some k e)
+range-of-opcode (j ∷ js) k b e =
     ⊎-elim
     (λ yes. let p = both (leb (first j) b) (ltb b (first j + count j)) yes in
     let same = some-injective j k (rw yes at e) in
     rw (← same) (leb-true (first j) b (p .0), ltb-true b (first j + count j) (p .1)))
-    (λ no. range-of-kind js k b (rw no at e))
+    (λ no. range-of-opcode js k b (rw no at e))
     (tested (within j b))
 
--- every byte of a kind fits a byte
-pub range-below-256 : (k : Kind) → first k + count k ≤ 256
+-- every number in an opcode's range fits a byte
+pub range-below-256 : (k : Opcode) → first k + count k ≤ 256
 range-below-256 k = computed k .below-256

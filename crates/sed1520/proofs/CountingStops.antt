@@ -4,7 +4,7 @@ use native.Mathlib.Omega.{arith}
 use mathlib.Core.Path.{_≡_, _∙_}
 use mathlib.Core.Bool.{false}
 use mathlib.Core.List.{List}
-use Rattle.sed1520.specs.Chip.{columnStop, latched, kindOf, staled}
+use Rattle.sed1520.specs.Chip.{columnStop, latched, readKind, staled}
 use Rattle.sed1520.specs.ColumnPromises.{CountingStops}
 use Rattle.sed1520.specs.Cycle.{outcome, answered, dataRead, cycleOf}
 use Rattle.sed1520.specs.Laws.{sent, Fit}
@@ -25,7 +25,7 @@ module _ (c : Chip) (ram : List ℕ) (fit : Fit c ram) (k : ℕ) (addressed : k 
     write-stays : cycleOf (sent 3 k b) c ram ≡ outcome (answered 0 0 (staled c)) ram
     write-stays = write-cycle c ram fit k addressed b ∙ data-write-stopped c ram (omega arith) b
 
-    read-stays : cycleOf (sent 5 k b) c ram ≡ outcome (answered (kindOf (c .latch)) (latched (c .latch)) (staled c)) ram
+    read-stays : cycleOf (sent 5 k b) c ram ≡ outcome (answered (readKind (c .latch)) (latched (c .latch)) (staled c)) ram
     unfolding dataRead
     read-stays = read-cycle c ram fit k addressed b ∙ rw (after-read-stopped c ram (omega arith))
 

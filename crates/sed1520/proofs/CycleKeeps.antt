@@ -13,16 +13,16 @@ use Rattle.sed1520.specs.Memory.{ramIndex}
 use Rattle.sed1520.specs.Cycle.{outcome, refusal, answered, execute, dataWrite, afterRead, dataRead, cycleOf}
 use Rattle.sed1520.specs.Promises.{Keeps, EveryCycleKeeps}
 use Rattle.sed1520.specs.declared.registers.Chip.{Chip}
-use Rattle.sed1520.specs.declared.commands.Kind.{Kind}
-use Rattle.sed1520.specs.declared.commands.Kind.the-variants.{Display, StartLine, Page, Column, Adc, Static, Duty, Modify, End, Reset}
+use Rattle.sed1520.specs.declared.commands.Opcode.{Opcode}
+use Rattle.sed1520.specs.declared.commands.Opcode.the-variants.{Display, StartLine, Page, Column, Adc, Static, Duty, Modify, End, Reset}
 use Rattle.sed1520.specs.declared.bus.Record.{Record}
 use Rattle.sed1520.proofs.ChipRange.{Ranges, ranges, in-range}
 use Rattle.sed1520.proofs.ColumnRefusals.{taken-column}
-use Rattle.sed1520.proofs.EachWay.{Taken, each-cycle}
+use Rattle.sed1520.proofs.EachWay.{Executed, each-cycle}
 use Rattle.basics.proofs.Tests.{when}
 
 -- the registers after an accepted command are in range
-execute-ranges : (k : Kind) (a : ℕ) (c : Chip) → Taken k a c → Ranges c → Ranges (execute k a c)
+execute-ranges : (k : Opcode) (a : ℕ) (c : Chip) → Executed k a c → Ranges c → Ranges (execute k a c)
 unfolding execute
 execute-ranges Display a c h r = search needs
 execute-ranges StartLine a c h r = search needs

@@ -8,10 +8,10 @@ use Rattle.sed1520.specs.Chip.{withPage, withColumn, withStartLine}
 use Rattle.sed1520.specs.Command.{first, count}
 use Rattle.sed1520.specs.Memory.{byteSet}
 use Rattle.sed1520.specs.Cycle.{outcome, answered, execute, columnRefusal, cycleOf}
-use Rattle.sed1520.specs.Laws.{registers, sent, Fit, Accepts, CycleLaws}
+use Rattle.sed1520.specs.Laws.{paintRegisters, sent, Fit, Accepts, CycleLaws}
 use Rattle.sed1520.specs.declared.registers.Chip.{Chip}
-use Rattle.sed1520.specs.declared.commands.Kind.{Kind}
-use Rattle.sed1520.specs.declared.commands.Kind.the-variants.{StartLine, Page, Column}
+use Rattle.sed1520.specs.declared.commands.Opcode.{Opcode}
+use Rattle.sed1520.specs.declared.commands.Opcode.the-variants.{StartLine, Page, Column}
 use Rattle.sed1520.specs.declared.bus.Record.{Record}
 use Rattle.sed1520.proofs.ActionCases.{data-write-stored}
 use Rattle.sed1520.proofs.ColumnRefusals.{no-column-set, column-taken}
@@ -21,7 +21,7 @@ use Rattle.sed1520.proofs.SentRecords.{write-cycle, command-cycle}
 module _ (c : Chip) (ram : List ℕ) (fit : Fit c ram) where
   -- a cycle whose outcome is known
   accepted : (r : Record) (next : Chip) (after : List ℕ) → cycleOf r c ram ≡ outcome (answered 0 0 next) after
-      → Accepts r c ram (registers next) after
+      → Accepts r c ram (paintRegisters next) after
   accepted r next after e =
       let keeps = cycle-keeps c ram r in
       record {
@@ -33,25 +33,25 @@ module _ (c : Chip) (ram : List ℕ) (fit : Fit c ram) where
       }
 
   module _ (k : ℕ) (addressed : k < 2) where
-    -- an accepted command of any kind
-    command-set : (kind : Kind) (a : ℕ) → a < count kind → columnRefusal (first kind + a) (c .modify) ≡ 0
-        → Accepts (sent 2 k (first kind + a)) c ram (registers (execute kind a c)) ram
+    -- an accepted command of any opcode
+    command-set : (kind : Opcode) (a : ℕ) → a < count kind → columnRefusal (first kind + a) (c .modify) ≡ 0
+        → Accepts (sent 2 k (first kind + a)) c ram (paintRegisters (execute kind a c)) ram
     command-set kind a h free = accepted (sent 2 k (first kind + a)) (execute kind a c) ram (command-cycle c ram fit k addressed kind a h free)
 
-    page-set : (n : ℕ) → n < 4 → Accepts (sent 2 k (first Page + n)) c ram (registers (withPage n c)) ram
+    page-set : (n : ℕ) → n < 4 → Accepts (sent 2 k (first Page + n)) c ram (paintRegisters (withPage n c)) ram
     unfolding execute
     page-set n h = command-set Page n h (no-column-set (first Page + n) (c .modify) (omega arith))
 
-    start-line-set : (n : ℕ) → n < 32 → Accepts (sent 2 k (first StartLine + n)) c ram (registers (withStartLine n c)) ram
+    start-line-set : (n : ℕ) → n < 32 → Accepts (sent 2 k (first StartLine + n)) c ram (paintRegisters (withStartLine n c)) ram
     unfolding execute
     start-line-set n h = command-set StartLine n h (no-column-set (first StartLine + n) (c .modify) (omega arith))
 
-    column-set : (n : ℕ) → n < 80 → c .modify ≡ false → Accepts (sent 2 k (first Column + n)) c ram (registers (withColumn n c)) ram
+    column-set : (n : ℕ) → n < 80 → c .modify ≡ false → Accepts (sent 2 k (first Column + n)) c ram (paintRegisters (withColumn n c)) ram
     unfolding execute
     column-set n h idle = command-set Column n (omega arith) (column-taken (first Column + n) (c .modify) (omega arith) idle (omega arith))
 
     data-write : (b : ℕ) → c .column < 80
-        → Accepts (sent 3 k b) c ram (registers (withColumn (c .column + 1) c)) (byteSet ram (c .page) (c .column) b)
+        → Accepts (sent 3 k b) c ram (paintRegisters (withColumn (c .column + 1) c)) (byteSet ram (c .page) (c .column) b)
     data-write b h =
         accepted (sent 3 k b) _ (byteSet ram (c .page) (c .column) b)
         (write-cycle c ram fit k addressed b ∙ data-write-stored c ram h b)

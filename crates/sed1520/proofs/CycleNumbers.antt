@@ -16,14 +16,14 @@ use Rattle.basics.proofs.Table.{each-line, EachLine, of-first, exactly-when}
 use borrow.Author.Needs.{needs}
 use Rattle.basics.proofs.Tests.{when, when-both}
 use Rattle.sed1520.specs.Chip.{columnStop, inRange}
-use Rattle.sed1520.specs.Command.{first, within, kinds, among, commandOf, decodeOf, isCommand}
+use Rattle.sed1520.specs.Command.{first, within, opcodes, among, asCommand, decodeOf, isCommand}
 use Rattle.sed1520.specs.Cycle.{Outcome, refusal, answered, execute, executed, commandWrite, dataWrite, dataRead, readLine, writeLine}
 use Rattle.sed1520.specs.Cycle.{addressLine, actionOf, busTable, busRefusal, stepOf, stateTable, cycleOf}
 use Rattle.sed1520.specs.CycleNumbers.{commandTable, cycleTable, EveryCycleNumber}
 use Rattle.sed1520.specs.declared.actions.Answer.{Answer}
 use Rattle.sed1520.specs.declared.registers.Chip.{Chip}
-use Rattle.sed1520.specs.declared.commands.Kind.{Kind}
-use Rattle.sed1520.specs.declared.commands.Kind.the-variants.{Column}
+use Rattle.sed1520.specs.declared.commands.Opcode.{Opcode}
+use Rattle.sed1520.specs.declared.commands.Opcode.the-variants.{Column}
 use Rattle.sed1520.specs.declared.bus.Record.{Record}
 use Rattle.sed1520.proofs.CycleKeeps.{cycle-keeps}
 use Rattle.sed1520.proofs.StepCases.{Asks, asks}
@@ -38,9 +38,9 @@ given unknown locked missing = verdictBy (cause 7 0 unknown ∷ cause 8 0 locked
 
 module _ (r : Record) (c : Chip) (ram : List ℕ) where
   -- what the lines of a command write give, where the record writes one
-  commanded : (b : ℕ) (k : Option Kind)
-      → executed b (commandOf b k .value) c .number
-      ≡ given (not (eqb (commandOf b k .number) 0)) (within Column b && c .modify) (within Column b && leb (first Column + columnStop) b) .number
+  commanded : (b : ℕ) (k : Option Opcode)
+      → executed b (asCommand b k .value) c .number
+      ≡ given (not (eqb (asCommand b k .number) 0)) (within Column b && c .modify) (within Column b && leb (first Column + columnStop) b) .number
   commanded b none = refl
   commanded b (some k) = sets (within Column b) (c .modify) (leb (first Column + columnStop) b)
     where
@@ -57,7 +57,7 @@ module _ (r : Record) (c : Chip) (ram : List ℕ) where
 
   command-number : r .lines ≡ 2 → commandWrite (r .byte) c .number ≡ verdictBy (commandTable r c) (verdict 0 0) .number
   unfolding commandWrite decodeOf
-  command-number lines = commanded (r .byte) (among kinds (r .byte)) ∙ rw lines
+  command-number lines = commanded (r .byte) (among opcodes (r .byte)) ∙ rw lines
 
   action-number : Asks r → Has (actionOf (r .lines) (r .byte) c ram) (verdictBy (commandTable r c) (verdict 0 0))
   unfolding actionOf dataWrite dataRead
@@ -82,7 +82,8 @@ module _ (r : Record) (c : Chip) (ram : List ℕ) where
   unfolding stepOf busRefusal
   step-number = bus (leb 8 (r .lines) || not (eqb (r .spare) 0)) (leb 2 (r .chip)) (eqb (readLine (r .lines)) (writeLine (r .lines))) refl refl refl
     where
-      bus : (a b s : Bool) → a ≡ (leb 8 (r .lines) || not (eqb (r .spare) 0)) → b ≡ leb 2 (r .chip) → s ≡ eqb (readLine (r .lines)) (writeLine (r .lines))
+      bus : (a b s : Bool) → a ≡ (leb 8 (r .lines) || not (eqb (r .spare) 0)) → b ≡ leb 2 (r .chip)
+          → s ≡ eqb (readLine (r .lines)) (writeLine (r .lines))
           → Has (stepOf r c ram) (verdictBy (busTable r ++ commandTable r c) (verdict 0 0))
       bus true b s is-a is-b is-s = rw (← is-a)
       bus false true s is-a is-b is-s = rw (← is-a, ← is-b)
@@ -97,7 +98,8 @@ module _ (r : Record) (c : Chip) (ram : List ℕ) where
 
   cycle-place : verdictBy (cycleTable r c ram) (verdict 0 0) .place ≡ 0
   cycle-place =
-      each-line verdict (verdict 0 0) (λ (v : Verdict). v .place ≡ 0) (cycleTable r c ram) (of-first (λ n at. at ≡ 0) (cycleTable r c ram) (search needs)) (λ _. refl)
+      each-line verdict (verdict 0 0) (λ (v : Verdict). v .place ≡ 0) (cycleTable r c ram)
+      (of-first (λ n at. at ≡ 0) (cycleTable r c ram) (search needs)) (λ _. refl)
 
 pub every-cycle-number : EveryCycleNumber
 every-cycle-number r c ram =
@@ -109,4 +111,5 @@ pub each-number : (P : ℕ → Type 0) (r : Record) (c : Chip) (ram : List ℕ) 
     → P (cycleOf r c ram .answer .number)
 each-number P r c ram each zero =
     rw (cycle-number r c ram)
-    (each-line verdict (verdict 0 0) (λ (v : Verdict). P (v .number)) (cycleTable r c ram) (of-first (λ n at. P n) (cycleTable r c ram) each) (λ _. zero))
+    (each-line verdict (verdict 0 0) (λ (v : Verdict). P (v .number)) (cycleTable r c ram) (of-first (λ n at. P n) (cycleTable r c ram) each)
+    (λ _. zero))

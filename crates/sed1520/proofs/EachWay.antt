@@ -16,21 +16,21 @@ use Rattle.sed1520.specs.Cycle.{Outcome, outcome, refusal, answered, exe
 use Rattle.sed1520.specs.Cycle.{dataRead, statusRead, writeLine, addressLine, actionOf, busRefusal, stepOf, cycleOf}
 use Rattle.sed1520.specs.declared.actions.Answer.{Answer}
 use Rattle.sed1520.specs.declared.registers.Chip.{Chip}
-use Rattle.sed1520.specs.declared.commands.Kind.{Kind}
+use Rattle.sed1520.specs.declared.commands.Opcode.{Opcode}
 use Rattle.sed1520.specs.declared.commands.Command.{Command}
 use Rattle.sed1520.specs.declared.bus.Record.{Record}
-use Rattle.sed1520.proofs.OneRule.{Placed, told-place}
+use Rattle.sed1520.proofs.OneRule.{Placed, coded-place}
 use Rattle.sed1520.proofs.StepCases.{asks}
 
--- a command that is executed: its argument is one of its kind's, and it is no column set that is refused
-pub record Taken (k : Kind) (a : ℕ) (c : Chip) : Type 0 where
+-- a command that is executed: its argument is one of its opcode's, and it is no column set that is refused
+pub record Executed (k : Opcode) (a : ℕ) (c : Chip) : Type 0 where
   pub argument : a < count k
   pub column : columnRefusal (first k + a) (c .modify) ≡ 0
 
 -- the ways: refused, and by the control lines a command executed, data written, the status read, data read
 pub record EachWay (P : Outcome → Outcome → Type 0) (r : Record) (c d : Chip) (ram : List ℕ) : Type 0 where
   pub refused : (n : ℕ) → P (outcome (refusal n c) ram) (outcome (refusal n d) ram)
-  pub command : r .lines ≡ 2 → (k : Kind) (a : ℕ) → Taken k a c
+  pub command : r .lines ≡ 2 → (k : Opcode) (a : ℕ) → Executed k a c
       → P (outcome (answered 0 0 (execute k a c)) ram) (outcome (answered 0 0 (execute k a d)) ram)
   pub data-write : r .lines ≡ 3 → (b : ℕ) → P (dataWrite b c ram) (dataWrite b d ram)
   pub status-read : r .lines ≡ 4 → P (outcome (statusRead c) ram) (outcome (statusRead d) ram)
@@ -46,7 +46,7 @@ module _ (P : Outcome → Outcome → Type 0) (r : Record) (c d : Chip) (ram : L
       let same = ap (columnRefusal b) mode in
       let number = columnRefusal b (c .modify) in
       when-both (λ (a e : Answer). P (outcome a ram) (outcome e ram)) (eqb number 0) (eqb (columnRefusal b (d .modify)) 0) (rw same)
-      (λ free. way .command lines (m .kind) (m .argument)
+      (λ free. way .command lines (m .opcode) (m .argument)
       (record { argument = h m refl .0; column = rw (h m refl .1) (eqb-true number 0 free) }))
       (λ _. rw (sym same) (way .refused number))
 
@@ -60,7 +60,7 @@ module _ (P : Outcome → Outcome → Type 0) (r : Record) (c d : Chip) (ram : L
       (λ low. let low : lines < 4 = omega (arith, to, eqb-true (writeLine lines) 0 low) in
       when-both P (eqb (addressLine lines) 0) _ refl
       (λ even. each-command (omega (arith, from, low, eqb-true (addressLine lines) 0 even))
-      (r .byte) (decodeOf (r .byte) .value) (λ m e. told-place (r .byte) m e))
+      (r .byte) (decodeOf (r .byte) .value) (λ m e. coded-place (r .byte) m e))
       (λ odd. way .data-write (omega (arith, from, low, eqb-false (addressLine lines) 0 odd)) (r .byte)))
       (λ high. let high : 4 ≤ lines = omega (arith, to, eqb-false (writeLine lines) 0 high) in
       when-both P (eqb (addressLine lines) 0) _ refl

@@ -4,11 +4,11 @@ use Rattle.basics.specs.Run.{runOf}
 use Rattle.sed1520.specs.Memory.{ramIndex}
 use Rattle.sed1520.specs.Chip.{inRange, fresh}
 use Rattle.sed1520.specs.Command.{among, decodeOf}
-use Rattle.sed1520.specs.Cycle.{execute, commandWrite, dataWrite, afterRead, dataRead, statusOf, actionOf, busRefusal, stepOf, cycleOf}
+use Rattle.sed1520.specs.Cycle.{execute, commandWrite, dataWrite, afterRead, dataRead, statusByte, actionOf, busRefusal, stepOf, cycleOf}
 use Rattle.sed1520.specs.Examples.{commanded, ChipExamples, CommandedChips}
 
 pub chip-examples : ChipExamples
-unfolding runOf ramIndex cycleOf stepOf busRefusal actionOf commandWrite dataWrite dataRead afterRead statusOf execute decodeOf among inRange fresh
+unfolding runOf ramIndex cycleOf stepOf busRefusal actionOf commandWrite dataWrite dataRead afterRead statusByte execute decodeOf among inRange fresh
 chip-examples =
     record {
       p1 = refl;

@@ -1,4 +1,4 @@
--- The flags, the latch's mark and the last byte of a chip record: what their test tells, and what decides it.
+-- The flags, the latch's mark and the last byte of a chip's bytes: what follows from their test, and what decides it.
 use Prim.Native.Nat.{ℕ, _<_, _≤_}
 use native.Mathlib.Omega.{arith}
 use mathlib.Core.Path.{_≡_}
@@ -9,7 +9,7 @@ use lib.Dec.{ltb, eqb}
 use lib.ListN.{getD}
 use borrow.Author.Tests.{lt-ltb, ltb-true, eqb-true}
 use Rattle.basics.proofs.Tests.{tested, both, either}
-use Rattle.sed1520.specs.ChipRecord.{flagPlaces, flagsAt, flagsRight}
+use Rattle.sed1520.specs.ChipBytes.{flagPlaces, flagsAt, flagsRight}
 
 -- whether a place is among those listed
 abbrev pub listed : List ℕ → ℕ → Bool

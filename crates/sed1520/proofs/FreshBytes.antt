@@ -8,21 +8,21 @@ use mathlib.Core.Logic.{inl, inr, ⊎-elim}
 use lib.Dec.{ltb}
 use borrow.Author.Tests.{ltb-true}
 use Rattle.basics.proofs.Tests.{tested, when}
-use Rattle.sed1520.specs.Chip.{latched, kindOf}
+use Rattle.sed1520.specs.Chip.{latched, readKind}
 use Rattle.sed1520.specs.Cycle.{execute, afterRead, dataRead, cycleOf}
 use Rattle.sed1520.specs.LatchPromises.{Near, FreshStands}
 use Rattle.sed1520.specs.declared.registers.Chip.{Chip}
 use Rattle.sed1520.specs.declared.registers.ReadLatch.{ReadLatch}
 use Rattle.sed1520.specs.declared.registers.ReadLatch.the-variants.{Fresh, Stale}
-use Rattle.sed1520.specs.declared.commands.Kind.{Kind}
-use Rattle.sed1520.specs.declared.commands.Kind.the-variants.{Display, StartLine, Page, Column, Adc, Static, Duty, Modify, End, Reset}
+use Rattle.sed1520.specs.declared.commands.Opcode.{Opcode}
+use Rattle.sed1520.specs.declared.commands.Opcode.the-variants.{Display, StartLine, Page, Column, Adc, Static, Duty, Modify, End, Reset}
 use Rattle.sed1520.specs.declared.bus.Record.{Record}
 use Rattle.sed1520.proofs.ActionCases.{data-write-done, data-write-stale}
 use Rattle.sed1520.proofs.EachWay.{each-cycle}
 
 -- a stale latch is not a fresh one
 pub not-fresh : {a b : ℕ} → Stale a ≡ Fresh b → ⊥
-not-fresh e = let kinds = ap kindOf e in omega arith
+not-fresh e = let opcodes = ap readKind e in omega arith
 
 module _ (c : Chip) (ram : List ℕ) (stands : FreshStands c ram) where
   -- latch and page as they were, and the same columns near
@@ -31,7 +31,7 @@ module _ (c : Chip) (ram : List ℕ) (stands : FreshStands c ram) where
       let cell = stands b (sym latch ∙ fresh) in
       record { column = cell .column; below = cell .below; near = near (cell .column) (cell .near); byte = rw page (cell .byte) }
 
-  executed-stands : (k : Kind) (a : ℕ) → FreshStands (execute k a c) ram
+  executed-stands : (k : Opcode) (a : ℕ) → FreshStands (execute k a c) ram
   unfolding execute
   executed-stands Display a = as-it-was _ refl refl (λ n h. h)
   executed-stands StartLine a = as-it-was _ refl refl (λ n h. h)
@@ -77,7 +77,7 @@ module _ (c : Chip) (ram : List ℕ) (stands : FreshStands c ram) where
       })
 
 -- an answer of kind 1 is the byte of a fresh latch
-by-kind : (latch : ReadLatch) → kindOf latch ≡ 1 → latch ≡ Fresh (latched latch)
+by-kind : (latch : ReadLatch) → readKind latch ≡ 1 → latch ≡ Fresh (latched latch)
 by-kind (Fresh b) e = refl
 by-kind (Stale b) e = absurd (omega arith)
 

@@ -17,10 +17,10 @@ pub mod FreshBytes
 pub mod OneEmptyRead
 pub mod OneRule
 pub mod Records
-pub mod RecordStepCases
-pub mod RecordSteps
-pub mod RecordsUndo
+pub mod BytesStepCases
+pub mod BytesSteps
+pub mod ChipBytesUndo
 pub mod SentRecords
 pub mod StepCases
-pub mod TurnsStale
+pub mod BecomesStale
 pub mod Unmarked

@@ -3,11 +3,11 @@ use Prim.Native.Nat.{ℕ, _+_, _<_, _≤_}
 use native.Mathlib.Omega.{arith}
 use mathlib.Core.Path.{_≡_, refl, ap, _∙_}
 use mathlib.Core.List.{List}
-use Rattle.sed1520.specs.Command.{first, count, Told}
+use Rattle.sed1520.specs.Command.{first, count, Coded}
 use Rattle.sed1520.specs.Cycle.{outcome, answered, execute, columnRefusal, dataWrite, dataRead, actionOf, cycleOf}
 use Rattle.sed1520.specs.Laws.{sent, Fit}
 use Rattle.sed1520.specs.declared.registers.Chip.{Chip}
-use Rattle.sed1520.specs.declared.commands.Kind.{Kind}
+use Rattle.sed1520.specs.declared.commands.Opcode.{Opcode}
 use Rattle.sed1520.specs.declared.commands.Command.{Command}
 use Rattle.sed1520.proofs.ActionCases.{command-executed}
 use Rattle.sed1520.proofs.OneRule.{decoded-argument}
@@ -27,12 +27,12 @@ module _ (c : Chip) (ram : List ℕ) (fit : Fit c ram) (k : ℕ) (addressed : k 
   pub read-cycle : (b : ℕ) → cycleOf (sent 5 k b) c ram ≡ outcome (dataRead c ram) ram
   read-cycle b = action-cycle 5 b (omega arith) (omega arith) ∙ action-data-read 5 b c ram refl
 
-  -- an accepted command of any kind
-  pub command-cycle : (kind : Kind) (a : ℕ) → a < count kind → columnRefusal (first kind + a) (c .modify) ≡ 0
+  -- an accepted command of any opcode
+  pub command-cycle : (kind : Opcode) (a : ℕ) → a < count kind → columnRefusal (first kind + a) (c .modify) ≡ 0
       → cycleOf (sent 2 k (first kind + a)) c ram ≡ outcome (answered 0 0 (execute kind a c)) ram
   command-cycle kind a h free =
       let b = first kind + a in
-      let known = ap (λ (t : Told Command). t .value) (decoded-argument kind a h) in
+      let known = ap (λ (t : Coded Command). t .value) (decoded-argument kind a h) in
       action-cycle 2 b (omega arith) (omega arith)
       ∙ action-command 2 b c ram refl
-      ∙ ap (λ x. outcome x ram) (command-executed b c (record { kind = kind; argument = a }) known free)
+      ∙ ap (λ x. outcome x ram) (command-executed b c (record { opcode = kind; argument = a }) known free)

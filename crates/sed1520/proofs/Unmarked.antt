@@ -8,39 +8,39 @@ use lib.Dec.{ltb, eqb}
 use borrow.Author.Tests.{eqb-true}
 use Rattle.basics.specs.Choice.{if}
 use Rattle.basics.proofs.Tests.{both, either, when, when-both}
-use Rattle.sed1520.specs.Chip.{inRange, latched, kindOf, staled}
+use Rattle.sed1520.specs.Chip.{inRange, latched, readKind, staled}
 use Rattle.sed1520.specs.Command.{within}
-use Rattle.sed1520.specs.Cycle.{Reply, Outcome, outcome, answered, execute, dataWrite, afterRead, dataRead, statusOf, writeLine, cycleOf}
+use Rattle.sed1520.specs.Cycle.{Reply, Outcome, outcome, answered, execute, dataWrite, afterRead, dataRead, statusByte, writeLine, cycleOf}
 use Rattle.sed1520.specs.LatchPromises.{unmarkedReply, setsPageOrWrites}
 use Rattle.sed1520.specs.declared.registers.Chip.{Chip}
 use Rattle.sed1520.specs.declared.registers.ReadLatch.{ReadLatch}
 use Rattle.sed1520.specs.declared.registers.ReadLatch.the-variants.{Fresh, Stale}
-use Rattle.sed1520.specs.declared.commands.Kind.{Kind}
-use Rattle.sed1520.specs.declared.commands.Kind.the-variants.{Display, StartLine, Page, Column, Adc, Static, Duty, Modify, End, Reset}
+use Rattle.sed1520.specs.declared.commands.Opcode.{Opcode}
+use Rattle.sed1520.specs.declared.commands.Opcode.the-variants.{Display, StartLine, Page, Column, Adc, Static, Duty, Modify, End, Reset}
 use Rattle.sed1520.specs.declared.bus.Record.{Record}
 use Rattle.sed1520.proofs.ActionCases.{data-write-stale}
 use Rattle.sed1520.proofs.EachWay.{each-cycle}
 
 -- the reply that an outcome has
-abbrev pub replyOf : Outcome → Reply
-replyOf o = record { kind = o .answer .kind; byte = o .answer .byte }
+abbrev pub asReply : Outcome → Reply
+asReply o = record { kind = o .answer .kind; byte = o .answer .byte }
 
 -- an outcome but for the mark that it leaves, and the one that it found
 abbrev pub unmarkedOutcome : Outcome → Outcome
 unmarkedOutcome o =
     let a = o .answer in
-    let kind = unmarkedReply (replyOf o) .kind in
+    let kind = unmarkedReply (asReply o) .kind in
     outcome (record { number = a .number; place = a .place; kind = kind; byte = a .byte; chip = staled (a .chip) }) (o .ram)
 
--- two outcomes that are the same so
+-- two outcomes that are the same but for these marks
 abbrev pub Same : Outcome → Outcome → Type 0
 Same o e = unmarkedOutcome o ≡ unmarkedOutcome e
 
--- two chips that are
+-- two chips that are the same but for their marks
 abbrev pub SameChips : Chip → Chip → Type 0
 SameChips c d = staled c ≡ staled d
 
-executed-same : (k : Kind) (a : ℕ) (c : Chip) → SameChips (execute k a (staled c)) (execute k a c)
+executed-same : (k : Opcode) (a : ℕ) (c : Chip) → SameChips (execute k a (staled c)) (execute k a c)
 unfolding execute
 executed-same Display a c = refl
 executed-same StartLine a c = refl
@@ -54,7 +54,7 @@ executed-same End a c = when-both SameChips (c .modify) _ refl (λ _. refl) (λ 
 executed-same Reset a c = refl
 
 -- a data read answers kind 1 or 2
-data-kind : (latch : ReadLatch) → if (eqb (kindOf latch) 1) 2 (kindOf latch) ≡ 2
+data-kind : (latch : ReadLatch) → if (eqb (readKind latch) 1) 2 (readKind latch) ≡ 2
 data-kind (Fresh b) = refl
 data-kind (Stale b) = refl
 
@@ -69,7 +69,7 @@ module _ (c : Chip) (ram : List ℕ) where
   read-same = when-both SameChips (ltb (c .column) 80) _ refl (λ _. refl) (λ _. refl)
 
   pub cycle-same : (r : Record) → Same (cycleOf r (staled c) ram) (cycleOf r c ram)
-  unfolding inRange dataWrite dataRead statusOf
+  unfolding inRange dataWrite dataRead statusByte
   cycle-same r =
       each-cycle Same r (staled c) c ram refl refl
       (record {
@@ -85,7 +85,7 @@ module _ (c : Chip) where
   abbrev pub Kept : Chip → Type 0
   Kept next = latched (c .latch) ≡ latched (next .latch)
 
-  executed-kept : (k : Kind) (a : ℕ) → Kept (execute k a c)
+  executed-kept : (k : Opcode) (a : ℕ) → Kept (execute k a c)
   unfolding execute
   executed-kept Display a = refl
   executed-kept StartLine a = refl

@@ -7,11 +7,11 @@ use Rattle.sed1520.specs.declared.registers.Chip.{Chip}
 use Rattle.sed1520.specs.declared.registers.ReadLatch.{ReadLatch}
 use Rattle.sed1520.specs.declared.registers.ReadLatch.the-variants.{Fresh, Stale}
 
--- how many columns a chip has, and so the column at which counting stops; not how many a column set is told with, which is `count Column`
+-- how many columns a chip has, and so the column at which counting stops; not how many a column set is coded with, which is `count Column`
 abbrev pub columnStop : ℕ
 columnStop = 80
 
--- the ranges of document 01, the columns' by request C-15, and no saved column while read-modify-write is off
+-- whether a chip is in the ranges of document 01, the columns' by request C-15, with no saved column while read-modify-write is off
 unfoldable pub inRange : Chip → Bool
 inRange c =
     ltb (c .page) 4
@@ -46,16 +46,16 @@ latched (Fresh b) = b
 latched (Stale b) = b
 
 -- the kind that a data read answers with
-abbrev pub kindOf : ReadLatch → ℕ
-kindOf (Fresh b) = 1
-kindOf (Stale b) = 2
+abbrev pub readKind : ReadLatch → ℕ
+readKind (Fresh b) = 1
+readKind (Stale b) = 2
 
 -- made stale, the latch keeps its byte
 abbrev pub stale : ReadLatch → ReadLatch
 stale latch = Stale (latched latch)
 
--- every register anew: flags by the first, numbers by the second, each from its byte's place in a chip record and what it held; the latch by the
--- third, from what it held
+-- a chip with every register renewed: a flag by the first function and a number by the second, each from the place of its byte among the chip's
+-- bytes and from what it held; the latch by the third, from what it held
 abbrev pub renewed : (ℕ → Bool → Bool) → (ℕ → ℕ → ℕ) → (ReadLatch → ReadLatch) → Chip → Chip
 renewed flag number latch c =
     record {
@@ -71,19 +71,19 @@ renewed flag number latch c =
       latch = latch (c .latch);
     }
 
--- at every place what it held
+-- for `renewed`: at every place what the register held
 abbrev pub asHeld : {A : Type 0} → ℕ → A → A
 asHeld place held = held
 
--- a value at one place, at every other what it held
+-- for `renewed`: a value at one place, at every other what the register held
 abbrev pub only : {A : Type 0} → ℕ → A → ℕ → A → A
 only at v place held = if (eqb place at) v held
 
--- the flag at a place of the chip record, 0 to 4, written alone; every other register as it was
+-- the flag at a place of the chip's bytes, 0 to 4, written alone; every other register as it was
 abbrev pub withFlag : ℕ → Bool → Chip → Chip
 withFlag at v c = renewed (only at v) asHeld (λ latch. latch) c
 
--- the number at a place of the chip record, 5 to 8, written alone
+-- the number at a place of the chip's bytes, 5 to 8, written alone
 abbrev pub withNumber : ℕ → ℕ → Chip → Chip
 withNumber at v c = renewed asHeld (only at v) (λ latch. latch) c
 

@@ -1,4 +1,9 @@
 -- One bus cycle of one chip over its own 320 bytes of RAM.
+-- Each of these definitions stands on the one before it:
+-- `execute` is an opcode's effect on the registers; `executed` refuses by 7, 8 or 14 or answers with that effect;
+-- `commandWrite` decodes a byte for `executed`; `actionOf` chooses by the control lines: `commandWrite`, a data write, a status read or a data read;
+-- `stepOf` refuses a bus record by 4 to 6 or does its action; `cycleOf` tests the RAM's size and the chip (numbers 1 and 2) before the step;
+-- `outcomeOf`, in crate `panel`, gives a record to the chip that it names, over that chip's 320 bytes.
 use Prim.Native.Nat.{ℕ, _+_, _/_, _%_}
 use mathlib.Core.Bool.{Bool, true, false, not, _||_}
 use mathlib.Core.List.{List, [], _∷_}
@@ -6,16 +11,16 @@ use mathlib.Core.Option.{Option, none, some}
 use lib.Dec.{ltb, leb, eqb}
 use lib.ListN.{length}
 use Rattle.basics.specs.Choice.{if}
-use Rattle.sed1520.specs.Chip.{columnStop, outOfRange, latched, kindOf, staled}
+use Rattle.sed1520.specs.Chip.{columnStop, outOfRange, latched, readKind, staled}
 use Rattle.sed1520.specs.Chip.{withDisplay, withStatic, withDuty, withReverse, withPage, withStartLine, withColumn, withLatch, withModify}
 use Rattle.sed1520.specs.Command.{first, decodeOf, within}
-use Rattle.basics.specs.Run.{Turn}
+use Rattle.basics.specs.Run.{Step}
 use Rattle.basics.specs.Table.{Cause, cause, unlessRefused}
-use Rattle.sed1520.specs.Memory.{byteAt, byteSet}
+use Rattle.sed1520.specs.Memory.{ramLength, byteAt, byteSet}
 use Rattle.sed1520.specs.declared.registers.Chip.{Chip}
 use Rattle.sed1520.specs.declared.registers.ReadLatch.the-variants.{Fresh}
-use Rattle.sed1520.specs.declared.commands.Kind.{Kind}
-use Rattle.sed1520.specs.declared.commands.Kind.the-variants.{Display, StartLine, Page, Column, Adc, Static, Duty, Modify, End, Reset}
+use Rattle.sed1520.specs.declared.commands.Opcode.{Opcode}
+use Rattle.sed1520.specs.declared.commands.Opcode.the-variants.{Display, StartLine, Page, Column, Adc, Static, Duty, Modify, End, Reset}
 use Rattle.sed1520.specs.declared.commands.Command.{Command}
 use Rattle.sed1520.specs.declared.actions.Answer.{Answer}
 use Rattle.sed1520.specs.declared.bus.Record.{Record}
@@ -24,19 +29,19 @@ use Rattle.sed1520.specs.declared.bus.Record.{Record}
 abbrev pub addressLine : ℕ → ℕ
 addressLine lines = lines % 2
 
--- RD, bit 1, active low
+-- RD, bit 1 of a record's control lines, active low
 abbrev pub readLine : ℕ → ℕ
 readLine lines = lines / 2 % 2
 
--- WR, bit 2, active low
+-- WR, bit 2 of a record's control lines, active low
 abbrev pub writeLine : ℕ → ℕ
 writeLine lines = lines / 4 % 2
 
--- refused: kind 0, byte 0, the chip as it came
+-- the answer to a refused record: its number, place 0, kind 0, byte 0, the chip as it came
 abbrev pub refusal : ℕ → Chip → Answer
 refusal n c = record { number = n; place = 0; kind = 0; byte = 0; chip = c }
 
--- done, with the answer's kind and byte and the chip's successor
+-- the answer to an accepted record: number 0, place 0, a kind and a byte, and the chip's successor
 abbrev pub answered : ℕ → ℕ → Chip → Answer
 answered k b c = record { number = 0; place = 0; kind = k; byte = b; chip = c }
 
@@ -45,7 +50,7 @@ pub record Outcome : Type 0 where
   pub answer : Answer
   pub ram : List ℕ
 
--- the two together
+-- an outcome from its answer and the RAM afterwards
 abbrev pub outcome : Answer → List ℕ → Outcome
 outcome a ram = record { answer = a; ram = ram }
 
@@ -54,7 +59,7 @@ abbrev pub on : ℕ → Bool
 on n = not (eqb n 0)
 
 -- the table of commands: what an accepted command does to the chip; that a page set leaves the read latch stale is request C-12
-unfoldable pub execute : Kind → ℕ → Chip → Chip
+unfoldable pub execute : Opcode → ℕ → Chip → Chip
 execute Display a c = withDisplay (on a) c
 execute StartLine a c = withStartLine a c
 execute Page a c = staled (withPage a c)
@@ -71,14 +76,14 @@ execute Reset a c = staled (withStartLine 0 (withColumn 0 (withPage 0 c)))
 abbrev pub columnRefusal : ℕ → Bool → ℕ
 columnRefusal b modify = if (within Column b) (if modify 8 (if (leb (first Column + columnStop) b) 14 0)) 0
 
--- number 7 for a byte that is no command, then 8 and 14, then the command executed
+-- the answer to a byte and the command that it is decoded as: number 7 where it is none, then 8 and 14, then the command executed
 abbrev pub executed : ℕ → Option Command → Chip → Answer
 executed b none c = refusal 7 c
 executed b (some m) c =
     let number = columnRefusal b (c .modify) in
-    if (eqb number 0) (answered 0 0 (execute (m .kind) (m .argument) c)) (refusal number c)
+    if (eqb number 0) (answered 0 0 (execute (m .opcode) (m .argument) c)) (refusal number c)
 
--- a command write; no command alters RAM
+-- the answer to a command write; no command alters RAM
 unfoldable pub commandWrite : ℕ → Chip → Answer
 commandWrite b c = executed b (decodeOf b .value) c
 
@@ -98,15 +103,15 @@ afterRead c ram =
 
 -- a data read answers the read latch
 unfoldable pub dataRead : Chip → List ℕ → Answer
-dataRead c ram = answered (kindOf (c .latch)) (latched (c .latch)) (afterRead c ram)
+dataRead c ram = answered (readKind (c .latch)) (latched (c .latch)) (afterRead c ram)
 
 -- the status byte: D6 forward, D5 display off, D3 to D0 0; D7 and D4 are 0 by a project rule
-unfoldable pub statusOf : Chip → ℕ
-statusOf c = if (c .reverse) 0 0x40 + if (c .«display_on») 0 0x20
+unfoldable pub statusByte : Chip → ℕ
+statusByte c = if (c .reverse) 0 0x40 + if (c .«display_on») 0 0x20
 
 -- a status read changes nothing
 abbrev pub statusRead : Chip → Answer
-statusRead c = answered 3 (statusOf c) c
+statusRead c = answered 3 (statusByte c) c
 
 -- the action that the control lines ask for: 2 writes a command, 3 writes data, 4 reads status, 5 reads data
 unfoldable pub actionOf : ℕ → ℕ → Chip → List ℕ → Outcome
@@ -123,7 +128,7 @@ busTable r =
     ∷ cause 6 0 (eqb (readLine (r .lines)) (writeLine (r .lines)))
     ∷ []
 
--- the number that refuses a bus record so, or 0
+-- the number, 4 to 6, by which a bus record is refused, or 0
 unfoldable pub busRefusal : Record → ℕ
 busRefusal r = unlessRefused (busTable r) (λ n at. n) 0
 
@@ -134,9 +139,9 @@ stepOf r c ram =
 
 -- numbers 1 and 2 of a cycle
 abbrev pub stateTable : Chip → List ℕ → List Cause
-stateTable c ram = cause 1 0 (not (eqb (length ram) 320)) ∷ cause 2 0 (outOfRange c) ∷ []
+stateTable c ram = cause 1 0 (not (eqb (length ram) ramLength)) ∷ cause 2 0 (outOfRange c) ∷ []
 
--- one cycle: numbers 1 and 2 first
+-- one cycle: numbers 1 and 2, then `stepOf`
 unfoldable pub cycleOf : Record → Chip → List ℕ → Outcome
 cycleOf r c ram = unlessRefused (stateTable c ram) (λ n at. outcome (refusal n c) ram) (stepOf r c ram)
 
@@ -151,10 +156,10 @@ pub record ChipAndRam : Type 0 where
   pub chip : Chip
   pub ram : List ℕ
 
--- an outcome as a turn of a run: its number, its reply and what it leads to
-abbrev pub turnOf : {S : Type 0} → Outcome → S → Turn S Reply
-turnOf o next = record { number = o .answer .number; answer = record { kind = o .answer .kind; byte = o .answer .byte }; next = next }
+-- an outcome as a step of a run: its number, its reply and what it leads to
+abbrev pub asStep : {S : Type 0} → Outcome → S → Step S Reply
+asStep o next = record { number = o .answer .number; answer = record { kind = o .answer .kind; byte = o .answer .byte }; next = next }
 
 -- a record given to one chip
-abbrev pub chipTurn : ChipAndRam → Record → Turn ChipAndRam Reply
-chipTurn s r = let o = cycleOf r (s .chip) (s .ram) in turnOf o (record { chip = o .answer .chip; ram = o .ram })
+abbrev pub chipStep : ChipAndRam → Record → Step ChipAndRam Reply
+chipStep s r = let o = cycleOf r (s .chip) (s .ram) in asStep o (record { chip = o .answer .chip; ram = o .ram })

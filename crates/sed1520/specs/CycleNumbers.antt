@@ -10,7 +10,7 @@ use Rattle.sed1520.specs.Command.{first, within, isCommand}
 use Rattle.sed1520.specs.Cycle.{stateTable, busTable, cycleOf}
 use Rattle.sed1520.specs.declared.registers.Chip.{Chip}
 use Rattle.sed1520.specs.declared.bus.Record.{Record}
-use Rattle.sed1520.specs.declared.commands.Kind.the-variants.{Column}
+use Rattle.sed1520.specs.declared.commands.Opcode.the-variants.{Column}
 
 -- whether a record writes a command, and one that a test holds of
 abbrev pub writesCommand : Record → Bool → Bool
@@ -28,7 +28,7 @@ commandTable r c =
 abbrev pub cycleTable : Record → Chip → List ℕ → List Cause
 cycleTable r c ram = stateTable c ram ++ (busTable r ++ commandTable r c)
 
--- every cycle gives each number exactly when its line says so, else 0
+-- every cycle gives each number exactly when its line of `cycleTable` says so, else 0
 abbrev pub EveryCycleNumber : Type 0
 EveryCycleNumber =
     (r : Record) (c : Chip) (ram : List ℕ) → let a = cycleOf r c ram .answer in

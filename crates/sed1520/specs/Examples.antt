@@ -5,19 +5,19 @@ use mathlib.Core.Path.{_≡_}
 use mathlib.Core.Bool.{true}
 use mathlib.Core.List.{List, [], _∷_, _++_}
 use lib.ListN.{replicate}
-use Rattle.basics.specs.Run.{Run, ranTo, runOf}
+use Rattle.basics.specs.Run.{Run, asRun, runOf}
 use Rattle.sed1520.specs.Chip.{fresh, withDisplay, withStatic, withReverse, withModify, withColumn, withStartLine}
-use Rattle.sed1520.specs.Command.{told, notTold, decodeOf}
-use Rattle.sed1520.specs.Memory.{byteSet}
-use Rattle.sed1520.specs.Cycle.{Outcome, outcome, refusal, cycleOf, Reply, ChipAndRam, chipTurn}
+use Rattle.sed1520.specs.Command.{coded, notCoded, decodeOf}
+use Rattle.sed1520.specs.Memory.{ramLength, byteSet}
+use Rattle.sed1520.specs.Cycle.{Outcome, outcome, refusal, cycleOf, Reply, ChipAndRam, chipStep}
 use Rattle.sed1520.specs.Laws.{sent}
 use Rattle.sed1520.specs.declared.registers.Chip.{Chip}
-use Rattle.sed1520.specs.declared.commands.Kind.the-variants.{StartLine, Column}
+use Rattle.sed1520.specs.declared.commands.Opcode.the-variants.{StartLine, Column}
 use Rattle.sed1520.specs.declared.bus.Record.{Record}
 
 -- a chip's RAM all 0
 abbrev pub blank : List ℕ
-blank = replicate 320 0
+blank = replicate ramLength 0
 
 -- a chip over its RAM
 abbrev pub chipOver : Chip → List ℕ → ChipAndRam
@@ -27,9 +27,9 @@ chipOver c ram = record { chip = c; ram = ram }
 abbrev pub start : ChipAndRam
 start = chipOver fresh blank
 
--- the run of some records, begun there
-abbrev pub ran : List Record → Run ChipAndRam Reply
-ran rs = runOf chipTurn start rs
+-- the run of some records, begun at the fresh chip over RAM all 0
+abbrev pub runFromFresh : List Record → Run ChipAndRam Reply
+runFromFresh rs = runOf chipStep start rs
 
 -- a command write to chip 0
 abbrev pub command : ℕ → Record
@@ -37,7 +37,7 @@ command b = sent 2 0 b
 
 -- the fresh chip after two command bytes
 unfoldable pub commanded : ℕ → ℕ → Chip
-commanded first second = ran (command first ∷ command second ∷ []) .state .chip
+commanded first second = runFromFresh (command first ∷ command second ∷ []) .state .chip
 
 -- what the cycle of one record gives back
 abbrev pub cycled : ChipAndRam → Record → Outcome
@@ -47,11 +47,11 @@ cycled s r = cycleOf r (s .chip) (s .ram)
 abbrev pub refused : ChipAndRam → ℕ → Outcome
 refused s n = outcome (refusal n (s .chip)) (s .ram)
 
--- the answer of a kind with a byte
+-- the reply of a kind and a byte
 abbrev pub reply : ℕ → ℕ → Reply
 reply k b = record { kind = k; byte = b }
 
--- the answer to a write
+-- the reply to a write
 abbrev pub wrote : Reply
 wrote = reply 0 0
 
@@ -75,30 +75,30 @@ atLastColumn = command 79 ∷ write 0xA5 ∷ []
 abbrev pub cursor : List Record
 cursor = command 10 ∷ command 0xE0 ∷ read ∷ read ∷ write 0xFF ∷ []
 
--- its answers: the first read has a stale latch, the second a fresh one
+-- the answers to P6's sequence: the first read has a stale latch, the second a fresh one
 abbrev pub cursorAnswers : List Reply
 cursorAnswers = wrote ∷ wrote ∷ reply 2 0 ∷ reply 1 0 ∷ wrote ∷ []
 
--- P1 to P4, P6, P7, P10 and P11
+-- the examples P1 to P4, P6, P7, P10 and P11
 pub record ChipExamples : Type 0 where
-  pub p1 : ran atLastColumn ≡ ranTo 0 (wrote ∷ wrote ∷ []) (chipOver (withColumn 80 fresh) (byteSet blank 0 79 0xA5))
-  pub p2 : ran (atLastColumn ++ (write 0x3C ∷ [])) ≡ ranTo 0 (wrote ∷ wrote ∷ wrote ∷ []) (ran atLastColumn .state)
-  pub p3 : (cycled start (command 100) ≡ refused start 14) × (decodeOf 100 ≡ told (record { kind = Column; argument = 100 }))
-  pub p3-ends : ran (command 100 ∷ write 0xA5 ∷ []) ≡ ranTo 14 [] start
-  pub p4-fresh : ran (status ∷ []) ≡ ranTo 0 (reply 3 0x60 ∷ []) start
-  pub p4-on-reverse : ran (command 0xAF ∷ command 0xA1 ∷ status ∷ [])
-      ≡ ranTo 0 (wrote ∷ wrote ∷ reply 3 0x00 ∷ []) (chipOver (withReverse true (withDisplay true fresh)) blank)
-  pub p6-counted : ran cursor ≡ ranTo 0 cursorAnswers (chipOver (withModify true 10 (withColumn 11 fresh)) (byteSet blank 0 10 0xFF))
-  pub p6-returned : ran (cursor ++ (command 0xEE ∷ []))
-      ≡ ranTo 0 (cursorAnswers ++ (wrote ∷ [])) (chipOver (withColumn 10 fresh) (byteSet blank 0 10 0xFF))
-  pub p7-on : ran (command 0xE0 ∷ []) .number ≡ 0
-  pub p7 : let s = ran (command 0xE0 ∷ []) .state in cycled s (command 0x05) ≡ refused s 8
-  pub p10-80 : (cycled start (command 0x80) ≡ refused start 7) × (decodeOf 0x80 ≡ notTold 0x80)
-  pub p10-ac : (cycled start (command 0xAC) ≡ refused start 7) × (decodeOf 0xAC ≡ notTold 0xAC)
-  pub p10-bc : (cycled start (command 0xBC) ≡ refused start 7) × (decodeOf 0xBC ≡ notTold 0xBC)
-  pub p10-e3 : (cycled start (command 0xE3) ≡ refused start 7) × (decodeOf 0xE3 ≡ notTold 0xE3)
-  pub p10-df : (ran (command 0xDF ∷ []) ≡ ranTo 0 (wrote ∷ []) (chipOver (withStartLine 31 fresh) blank))
-      × (decodeOf 0xDF ≡ told (record { kind = StartLine; argument = 31 }))
+  pub p1 : runFromFresh atLastColumn ≡ asRun 0 (wrote ∷ wrote ∷ []) (chipOver (withColumn 80 fresh) (byteSet blank 0 79 0xA5))
+  pub p2 : runFromFresh (atLastColumn ++ (write 0x3C ∷ [])) ≡ asRun 0 (wrote ∷ wrote ∷ wrote ∷ []) (runFromFresh atLastColumn .state)
+  pub p3 : (cycled start (command 100) ≡ refused start 14) × (decodeOf 100 ≡ coded (record { opcode = Column; argument = 100 }))
+  pub p3-ends : runFromFresh (command 100 ∷ write 0xA5 ∷ []) ≡ asRun 14 [] start
+  pub p4-fresh : runFromFresh (status ∷ []) ≡ asRun 0 (reply 3 0x60 ∷ []) start
+  pub p4-on-reverse : runFromFresh (command 0xAF ∷ command 0xA1 ∷ status ∷ [])
+      ≡ asRun 0 (wrote ∷ wrote ∷ reply 3 0x00 ∷ []) (chipOver (withReverse true (withDisplay true fresh)) blank)
+  pub p6-counted : runFromFresh cursor ≡ asRun 0 cursorAnswers (chipOver (withModify true 10 (withColumn 11 fresh)) (byteSet blank 0 10 0xFF))
+  pub p6-returned : runFromFresh (cursor ++ (command 0xEE ∷ []))
+      ≡ asRun 0 (cursorAnswers ++ (wrote ∷ [])) (chipOver (withColumn 10 fresh) (byteSet blank 0 10 0xFF))
+  pub p7-on : runFromFresh (command 0xE0 ∷ []) .number ≡ 0
+  pub p7 : let s = runFromFresh (command 0xE0 ∷ []) .state in cycled s (command 0x05) ≡ refused s 8
+  pub p10-80 : (cycled start (command 0x80) ≡ refused start 7) × (decodeOf 0x80 ≡ notCoded 0x80)
+  pub p10-ac : (cycled start (command 0xAC) ≡ refused start 7) × (decodeOf 0xAC ≡ notCoded 0xAC)
+  pub p10-bc : (cycled start (command 0xBC) ≡ refused start 7) × (decodeOf 0xBC ≡ notCoded 0xBC)
+  pub p10-e3 : (cycled start (command 0xE3) ≡ refused start 7) × (decodeOf 0xE3 ≡ notCoded 0xE3)
+  pub p10-df : (runFromFresh (command 0xDF ∷ []) ≡ asRun 0 (wrote ∷ []) (chipOver (withStartLine 31 fresh) blank))
+      × (decodeOf 0xDF ≡ coded (record { opcode = StartLine; argument = 31 }))
   pub p11-0 : (b : ℕ) → cycled start (sent 0 0 b) ≡ refused start 6
   pub p11-6 : (b : ℕ) → cycled start (sent 6 0 b) ≡ refused start 6
   pub p11-8 : (b : ℕ) → cycled start (sent 8 2 b) ≡ refused start 4

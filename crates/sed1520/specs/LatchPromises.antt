@@ -15,7 +15,7 @@ use Rattle.sed1520.specs.Laws.{sent, Fit}
 use Rattle.sed1520.specs.Memory.{byteAt}
 use Rattle.sed1520.specs.declared.registers.Chip.{Chip}
 use Rattle.sed1520.specs.declared.registers.ReadLatch.the-variants.{Fresh, Stale}
-use Rattle.sed1520.specs.declared.commands.Kind.the-variants.{Page}
+use Rattle.sed1520.specs.declared.commands.Opcode.the-variants.{Page}
 use Rattle.sed1520.specs.declared.bus.Record.{Record}
 
 -- the cycle is done and leaves the latch stale with the byte that it had
@@ -23,8 +23,8 @@ pub record Stales (r : Record) (c : Chip) (ram : List ℕ) : Type 0 where
   pub number : cycleOf r c ram .answer .number ≡ 0
   pub latch : cycleOf r c ram .answer .chip .latch ≡ Stale (latched (c .latch))
 
--- request C-12: every page set does so, and every data write, whatever the column, on either chip
-pub record LatchTurnsStale : Type 0 where
+-- request C-12: every page set, and every data write, whatever the column, leaves the latch stale with its byte, on either chip
+pub record LatchBecomesStale : Type 0 where
   pub page-set : (c : Chip) (ram : List ℕ) → Fit c ram → (k : ℕ) → k < 2 → (n : ℕ) → n < 4 → Stales (sent 2 k (first Page + n)) c ram
   pub data-write : (c : Chip) (ram : List ℕ) → Fit c ram → (k : ℕ) → k < 2 → (b : ℕ) → Stales (sent 3 k b) c ram
 
@@ -44,18 +44,18 @@ CountedPast n c = (suc n ≡ c .column) × (c .modify ≡ true → c .column ≡
 abbrev pub Addressed : ℕ → Chip → Type 0
 Addressed n c = (n ≡ c .column) × (c .modify ≡ true)
 
--- one of these two columns
+-- a column near the one addressed: `CountedPast` or `Addressed`
 abbrev pub Near : ℕ → Chip → Type 0
 Near n c = CountedPast n c ⊎ Addressed n c
 
--- a byte stands in RAM on the page addressed, in such a column
+-- a byte stands in RAM on the page addressed, in a column near the one addressed
 pub record Stands (c : Chip) (ram : List ℕ) (b : ℕ) : Type 0 where
   pub column : ℕ
   pub below : column < columnStop
   pub near : Near column c
   pub byte : byteAt ram (c .page) column ≡ b
 
--- the byte of the latch stands so, if the latch is fresh
+-- the byte of the latch, if the latch is fresh, stands in RAM near the column addressed
 abbrev pub FreshStands : Chip → List ℕ → Type 0
 FreshStands c ram = (b : ℕ) → c .latch ≡ Fresh b → Stands c ram b
 
@@ -63,6 +63,6 @@ FreshStands c ram = (b : ℕ) → c .latch ≡ Fresh b → Stands c ram b
 abbrev pub unmarkedReply : Reply → Reply
 unmarkedReply a = record { kind = if (eqb (a .kind) 1) 2 (a .kind); byte = a .byte }
 
--- a page set or a data write
+-- whether a record is a page set or a data write
 abbrev pub setsPageOrWrites : Record → Bool
 setsPageOrWrites r = eqb (r .lines) 2 && within Page (r .byte) || eqb (r .lines) 3

@@ -3,8 +3,8 @@ pub mod Command
 pub mod Memory
 pub mod Cycle
 pub mod CycleNumbers
-pub mod ChipRecord
-pub mod RecordStep
+pub mod ChipBytes
+pub mod BytesStep
 pub mod Records
 pub mod Laws
 pub mod Promises

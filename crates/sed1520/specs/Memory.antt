@@ -4,6 +4,10 @@ use mathlib.Core.List.{List}
 use lib.ListN.{getD, set}
 use Rattle.sed1520.specs.Chip.{columnStop}
 
+-- how many bytes of RAM a chip has: 320
+abbrev pub ramLength : ℕ
+ramLength = 4 * columnStop
+
 -- where the byte of a page and a column lies
 unfoldable pub ramIndex : ℕ → ℕ → ℕ
 ramIndex page column = columnStop * page + column
@@ -12,6 +16,6 @@ ramIndex page column = columnStop * page + column
 abbrev pub byteAt : List ℕ → ℕ → ℕ → ℕ
 byteAt ram page column = getD ram (ramIndex page column) 0
 
--- the RAM with that byte written
+-- the RAM with the byte of a page and a column written
 abbrev pub byteSet : List ℕ → ℕ → ℕ → ℕ → List ℕ
 byteSet ram page column b = set ram (ramIndex page column) b

@@ -4,12 +4,13 @@ use mathlib.Core.Path.{_≡_}
 use mathlib.Core.Bool.{true, false}
 use mathlib.Core.List.{List, [], _∷_}
 use lib.ListN.{length}
+use Rattle.sed1520.specs.Memory.{ramLength}
 use Rattle.basics.specs.Counts.{countBelow}
 use Rattle.sed1520.specs.Chip.{inRange, fresh}
-use Rattle.sed1520.specs.ChipRecord.{chipBytes, flagsRight, recordRight, chipIn}
-use Rattle.sed1520.specs.Command.{first, count, told, notTold, decodeOf, isCommand, encodeOf}
+use Rattle.sed1520.specs.ChipBytes.{chipLength, chipBytes, flagsRight, bytesPass, chipIn}
+use Rattle.sed1520.specs.Command.{first, count, coded, notCoded, decodeOf, isCommand, encodeOf}
 use Rattle.sed1520.specs.Cycle.{Outcome, outcome, refusal, stepOf, cycleOf}
-use Rattle.sed1520.specs.RecordStep.{bare, Acted, acted, stepBytes}
+use Rattle.sed1520.specs.BytesStep.{bare, Acted, acted, stepBytes}
 use Rattle.sed1520.specs.declared.registers.Chip.{Chip}
 use Rattle.sed1520.specs.declared.commands.Command.{Command}
 use Rattle.sed1520.specs.declared.bus.Record.{Record}
@@ -17,13 +18,13 @@ use Rattle.sed1520.specs.declared.bus.Record.{Record}
 -- commands and bytes: a command whose argument is in range has a byte, each way undoes the other, on exactly 175 bytes; any other byte or
 -- command is refused with number 7, itself or its argument as place
 pub record OneRule : Type 0 where
-  pub byte-of : (m : Command) → m .argument < count (m .kind) → encodeOf m ≡ told (first (m .kind) + m .argument)
-  pub there : (m : Command) (b : ℕ) → encodeOf m ≡ told b → decodeOf b ≡ told m
-  pub back : (b : ℕ) (m : Command) → decodeOf b ≡ told m → encodeOf m ≡ told b
-  pub byte : (b : ℕ) (m : Command) → decodeOf b ≡ told m → b < 256
+  pub byte-of : (m : Command) → m .argument < count (m .opcode) → encodeOf m ≡ coded (first (m .opcode) + m .argument)
+  pub there : (m : Command) (b : ℕ) → encodeOf m ≡ coded b → decodeOf b ≡ coded m
+  pub back : (b : ℕ) (m : Command) → decodeOf b ≡ coded m → encodeOf m ≡ coded b
+  pub byte : (b : ℕ) (m : Command) → decodeOf b ≡ coded m → b < 256
   pub many : countBelow isCommand 256 ≡ 175
-  pub no-command : (b : ℕ) → isCommand b ≡ false → decodeOf b ≡ notTold b
-  pub no-byte : (m : Command) → count (m .kind) ≤ m .argument → encodeOf m ≡ notTold (m .argument)
+  pub no-command : (b : ℕ) → isCommand b ≡ false → decodeOf b ≡ notCoded b
+  pub no-byte : (m : Command) → count (m .opcode) ≤ m .argument → encodeOf m ≡ notCoded (m .argument)
 
 -- what holds of every outcome of a cycle: place 0, the RAM's length as it was, a chip in range still in range; refused, nothing is changed
 -- and the answer is kind 0, byte 0
@@ -33,22 +34,22 @@ pub record Keeps (c : Chip) (ram : List ℕ) (o : Outcome) : Type 0 where
   pub range : inRange c ≡ true → inRange (o .answer .chip) ≡ true
   pub refused : (o .answer .number ≡ 0 → ⊥) → o ≡ outcome (refusal (o .answer .number) c) ram
 
--- every cycle keeps it
+-- every outcome of a cycle is as `Keeps` says
 abbrev pub EveryCycleKeeps : Type 0
 EveryCycleKeeps = (r : Record) (c : Chip) (ram : List ℕ) → Keeps c ram (cycleOf r c ram)
 
 -- past numbers 1 and 2, every cycle is `stepOf`
 abbrev pub EveryCycleSteps : Type 0
-EveryCycleSteps = (r : Record) (c : Chip) (ram : List ℕ) → length ram ≡ 320 → inRange c ≡ true → cycleOf r c ram ≡ stepOf r c ram
+EveryCycleSteps = (r : Record) (c : Chip) (ram : List ℕ) → length ram ≡ ramLength → inRange c ≡ true → cycleOf r c ram ≡ stepOf r c ram
 
 -- a chip and its 12 bytes: the bytes of a chip are read back as that chip; the chip of 12 bytes whose flags, mark and last byte are right is
 -- written back as those bytes; bytes pass number 2 exactly when their chip does, and a chip's bytes when the chip does; the bytes of the fresh chip
-pub record RecordsUndo : Type 0 where
+pub record ChipBytesUndo : Type 0 where
   pub there : (c : Chip) → chipIn (chipBytes c) ≡ c
-  pub back : (b : List ℕ) → length b ≡ 12 → flagsRight b ≡ true → chipBytes (chipIn b) ≡ b
-  pub passes : (b : List ℕ) → inRange (chipIn b) ≡ recordRight b
-  pub chip-passes : (c : Chip) → recordRight (chipBytes c) ≡ inRange c
-  pub fresh-record : chipBytes fresh ≡ 0 ∷ 0 ∷ 1 ∷ 0 ∷ 0 ∷ 0 ∷ 0 ∷ 0 ∷ 0 ∷ 0 ∷ 0 ∷ 0 ∷ []
+  pub back : (b : List ℕ) → length b ≡ chipLength → flagsRight b ≡ true → chipBytes (chipIn b) ≡ b
+  pub passes : (b : List ℕ) → inRange (chipIn b) ≡ bytesPass b
+  pub chip-passes : (c : Chip) → bytesPass (chipBytes c) ≡ inRange c
+  pub fresh-bytes : chipBytes fresh ≡ 0 ∷ 0 ∷ 1 ∷ 0 ∷ 0 ∷ 0 ∷ 0 ∷ 0 ∷ 0 ∷ 0 ∷ 0 ∷ 0 ∷ []
 
 -- what a cycle gives back without its chip, and the chip as 12 bytes
 abbrev pub asBytes : Outcome → Acted
@@ -57,4 +58,4 @@ asBytes o = acted (bare (o .answer)) (chipBytes (o .answer .chip)) (o .ram)
 -- on bytes of a chip that number 2 lets pass, over 320 bytes of RAM, a step is the cycle of that chip, which is written back
 abbrev pub EveryBytesStep : Type 0
 EveryBytesStep =
-    (r : Record) (b ram : List ℕ) → recordRight b ≡ true → length ram ≡ 320 → stepBytes r b ram ≡ asBytes (cycleOf r (chipIn b) ram)
+    (r : Record) (b ram : List ℕ) → bytesPass b ≡ true → length ram ≡ ramLength → stepBytes r b ram ≡ asBytes (cycleOf r (chipIn b) ram)

@@ -13,14 +13,14 @@ recordBytes r = r .lines ∷ r .chip ∷ r .byte ∷ r .spare ∷ []
 abbrev pub recordsBytes : List Record → List ℕ
 recordsBytes rs = flatMap recordBytes rs
 
--- the record in the first four bytes
+-- the record in the first four of some bytes
 abbrev pub front : List ℕ → Record
 front bytes = record { lines = getD bytes 0 0; chip = getD bytes 1 0; byte = getD bytes 2 0; spare = getD bytes 3 0 }
 
--- the first n records
+-- the first n records in some bytes
 abbrev pub recordsIn : List ℕ → ℕ → List Record
 recordsIn bytes n = pieces front 4 bytes n
 
--- all whole records
+-- all whole records in some bytes
 abbrev pub wholeRecords : List ℕ → List Record
 wholeRecords bytes = recordsIn bytes (length bytes / 4)

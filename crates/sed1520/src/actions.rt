@@ -1,9 +1,9 @@
 // The four actions of a chip: a command write, a data write, a data read and a status read. Each hands the successor back.
 ghost use mathlib.Core.Path.{_≡_};
 ghost use Rattle.sed1520.specs.Cycle.{refusal, answered, outcome, columnRefusal, commandWrite, dataWrite};
-ghost use Rattle.sed1520.specs.Cycle.{afterRead, dataRead, statusOf, statusRead};
+ghost use Rattle.sed1520.specs.Cycle.{afterRead, dataRead, statusByte, statusRead};
 use crate::commands::Decoded;
-use crate::commands::Kind;
+use crate::commands::Opcode;
 use crate::commands::decode;
 use crate::memory::load;
 use crate::memory::store;
@@ -53,7 +53,7 @@ impl Answer {
 fn column_refusal(byte: u8, modify: bool) -> u8
     ensures { λ r. ⌜ r ≡ columnRefusal byte modify ⌝ }
 {
-    let set = Kind::Column;
+    let set = Opcode::Column;
     if set.count() <= byte {
         return 0;
     }
@@ -95,7 +95,7 @@ impl Chip {
     }
 
     // The chip after a data read: below column 80 the latch is loaded from the addressed byte and the column counted
-    // on, unless read-modify-write keeps it; from 80 on the latch turns stale.
+    // on, unless read-modify-write keeps it; from 80 on the latch becomes stale.
     fn after_read(mut self, ram: &[u8]) -> Chip
         ensures { λ r. ⌜ r ≡ afterRead self (now (ram .entry)) ⌝ }
     {
@@ -121,7 +121,7 @@ impl Chip {
 
     // D6: forward. D5: display off. The other bits are 0.
     fn status_byte(self) -> u8
-        ensures { λ r. ⌜ r ≡ statusOf self ⌝ }
+        ensures { λ r. ⌜ r ≡ statusByte self ⌝ }
     {
         if self.reverse {
             if self.display_on { 0 } else { 0x20 }

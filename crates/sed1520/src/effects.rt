@@ -1,9 +1,9 @@
 // What each command does to the chip.
 ghost use mathlib.Core.Path.{_≡_};
 ghost use Rattle.sed1520.specs.Cycle.{execute};
-ghost use Rattle.sed1520.specs.declared.commands.Kind.the-variants.{Modify, End, Reset};
+ghost use Rattle.sed1520.specs.declared.commands.Opcode.the-variants.{Modify, End, Reset};
 use crate::commands::Command;
-use crate::commands::Kind;
+use crate::commands::Opcode;
 use crate::registers::Chip;
 
 impl Chip {
@@ -44,27 +44,27 @@ impl Chip {
 
     // What an accepted command does.
     pub(crate) fn execute(mut self, command: Command) -> Chip
-        ensures { λ r. ⌜ r ≡ execute (command .kind) (command .argument) self ⌝ }
+        ensures { λ r. ⌜ r ≡ execute (command .opcode) (command .argument) self ⌝ }
     {
         let argument = command.argument;
-        let kind = command.kind;
-        match kind {
-            Kind::Display => self.display_on = argument != 0,
-            Kind::StartLine => self.start_line = argument,
-            Kind::Page => {
+        let opcode = command.opcode;
+        match opcode {
+            Opcode::Display => self.display_on = argument != 0,
+            Opcode::StartLine => self.start_line = argument,
+            Opcode::Page => {
                 self.page = argument;
                 return self.staled();
             }
-            Kind::Column => {
+            Opcode::Column => {
                 self.column = argument;
                 return self.staled();
             }
-            Kind::Adc => self.reverse = argument != 0,
-            Kind::Static => self.static_on = argument != 0,
-            Kind::Duty => self.duty_32 = argument != 0,
-            Kind::Modify => return self.modify_begun(),
-            Kind::End => return self.modify_ended(),
-            Kind::Reset => return self.reset(),
+            Opcode::Adc => self.reverse = argument != 0,
+            Opcode::Static => self.static_on = argument != 0,
+            Opcode::Duty => self.duty_32 = argument != 0,
+            Opcode::Modify => return self.modify_begun(),
+            Opcode::End => return self.modify_ended(),
+            Opcode::Reset => return self.reset(),
         }
         self
     }

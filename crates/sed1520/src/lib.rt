@@ -1,10 +1,10 @@
-// One SED1520: its registers, its commands, and one bus cycle over its own 320 bytes of display RAM; the chip as 12 bytes, and a
-// bus record given to these.
+// One SED1520: its registers, its commands, and one bus cycle over its own 320 bytes of display RAM; the chip as 12 bytes,
+// and a bus record given to these.
 pub mod actions;
 pub mod bus;
-pub mod chip_record;
+pub mod bytes_step;
+pub mod chip_bytes;
 pub mod commands;
 mod effects;
 pub mod memory;
-pub mod record_step;
 pub mod registers;

@@ -1,6 +1,6 @@
 // A chip's registers.
 ghost use mathlib.Core.Path.{_≡_};
-ghost use Rattle.sed1520.specs.Chip.{inRange, fresh, latched, stale, kindOf, withLatch, staled};
+ghost use Rattle.sed1520.specs.Chip.{inRange, fresh, latched, stale, readKind, withLatch, staled};
 
 // The byte that the next data read answers (document 01: the holder): fresh where a data read loaded it and nothing
 // made it stale since.
@@ -22,7 +22,7 @@ impl ReadLatch {
 
     // The kind of the answer that a data read gives.
     pub(crate) fn kind(self) -> u8
-        ensures { λ r. ⌜ r ≡ kindOf self ⌝ }
+        ensures { λ r. ⌜ r ≡ readKind self ⌝ }
     {
         match self {
             ReadLatch::Fresh(_) => 1,
@@ -58,7 +58,7 @@ pub struct Chip {
 
 impl Chip {
     // The column at which counting stops: the RAM has the columns below it, and a column set takes one of these. The
-    // command's argument has more values, Kind::count of them.
+    // command's argument has more values, Opcode::count of them.
     pub const COLUMN_STOP: u8 = 80;
     // The segments that a chip drives.
     pub const SEGMENTS: usize = 61;

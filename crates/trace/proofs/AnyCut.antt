@@ -54,14 +54,14 @@ module _ (p : Panel) (whole : Whole p) (bytes : List ℕ) (done : traceRun p byt
       ∙ ap (λ n. stoppedWith f (if (eqb n 0) 0 3)) kept
 
   closes-after : ClosesAfter p bytes
-  closes-after = record { told = rw closed (rw answered); left = rw closed; right = rw closed }
+  closes-after = record { reported = rw closed (rw answered); left = rw closed; right = rw closed }
 
 pub feeds-close : FeedsClose
 feeds-close = closes-after
 
--- the close after whole records only: what it tells is what was told last, and the chips stay
+-- the close after whole records only: it gives back what the last call gave back, and the chips stay
 record Closes (p : Panel) (trace : List ℕ) : Type 0 where
-  ran : closeOf (feedAfter (traceRun p trace) trace) .ran ≡ fedAfter (traceRun p trace) trace .ran
+  tally : closeOf (feedAfter (traceRun p trace) trace) .tally ≡ fedAfter (traceRun p trace) trace .tally
   left : closeOf (feedAfter (traceRun p trace) trace) .feed .left ≡ traceRun p trace .state .left
   right : closeOf (feedAfter (traceRun p trace) trace) .feed .right ≡ traceRun p trace .state .right
 
@@ -70,13 +70,13 @@ module _ (p : Panel) (whole : Whole p) (trace : List ℕ) (size : length trace %
   unfolding closeOf
   close-stopped h =
       let stopped = ne-eqb (traceRun p trace .number) 0 h in
-      record { ran = rw stopped; left = rw stopped; right = rw stopped }
+      record { tally = rw stopped; left = rw stopped; right = rw stopped }
 
   close-open : traceRun p trace .number ≡ 0 → Closes p trace
   close-open done =
       let end = feeds-close p whole trace done in
       record {
-        ran = end .told ∙ rw (done, size, answered p whole trace done);
+        tally = end .reported ∙ rw (done, size, answered p whole trace done);
         left = end .left;
         right = end .right;
       }
@@ -99,7 +99,7 @@ at-any-cut p trace buffer r xs joined room =
     let end-closed = close-whole-trace p whole trace (r .whole) in
     let replayed = runs p trace buffer r in
     record {
-      told = rw end (rw replayed (end-closed .ran));
+      reported = rw end (rw replayed (end-closed .tally));
       panel = rw end (rw replayed (rw (end-closed .left, end-closed .right)));
       answers =
           rw end (rw replayed

@@ -15,9 +15,10 @@ use Rattle.basics.proofs.Table.{first-refuses, none-refuses, each-line, of-firs
 use Rattle.basics.proofs.Tests.{neither}
 use Rattle.sed1520.specs.Chip.{inRange}
 use Rattle.sed1520.specs.declared.registers.Chip.{Chip}
-use Rattle.panel.specs.Panel.{panelOf}
+use Rattle.panel.specs.Panel.{asPanel}
 use Rattle.trace.specs.Replay.{endedBytes, sizesWrong}
-use Rattle.trace.specs.Feed.{begun, joinedTo, completedBy, tooMany, progressWrong, feedOf, feedTable, partTable, stateVerdict, partVerdict, fedWith}
+use Rattle.trace.specs.Feed.{begun, joinedTo, completedBy, tooMany, progressWrong, asFeed, feedTable, partTable, stateVerdict}
+use Rattle.trace.specs.Feed.{partVerdict, fedWith}
 use Rattle.trace.specs.Feed.{openOf, unlessStopped, notTaken, tookPart, openPart, partOf, stoppedWith, openClose, closeOf}
 use Rattle.trace.specs.FeedPromises.{refusesPart}
 use Rattle.trace.specs.declared.progress.Ending.{Ending}
@@ -56,9 +57,17 @@ state-right f none =
 pub right-state : (f : Feed) → StateRight f → NoneHolds (feedTable f)
 unfolding progressWrong
 right-state f s =
-    let t = f .progress in
-    (ap not (s .left), (ap not (s .right), (rw (le-ltb 3 (t .kept) (s .few), le-ltb (t .records) (t .compared) (s .compared))
-    (le-ltb (t .compared) (t .differing) (s .differing)), tt)))
+    let t = f .progress in (
+      ap not (s .left),
+      (
+        ap not (s .right),
+        (
+          rw (le-ltb 3 (t .kept) (s .few), le-ltb (t .records) (t .compared) (s .compared))
+              (le-ltb (t .compared) (t .differing) (s .differing)),
+          tt,
+        ),
+      ),
+    )
 
 -- number 2 is the only one of a feed, at places up to 3
 pub state-two : (f : Feed) (n at : ℕ) → First (feedTable f) n at → n ≡ 2
@@ -106,9 +115,10 @@ module _ (f : Feed) (ram part answers : ℕ) where
 
   pub right-part : PartRight f ram part answers → NoneHolds (partTable f ram part answers)
   right-part r =
-      let s = r .sizes in
-      (right-sizes part more ram answers (s .short) (s .image) (s .space),
-      (le-ltb 4294967295 (f .progress .records + more) (r .countable), right-state f (r .state)))
+      let s = r .sizes in (
+        right-sizes part more ram answers (s .short) (s .image) (s .space),
+        (le-ltb 4294967295 (f .progress .records + more) (r .countable), right-state f (r .state)),
+      )
 
   -- a part is refused before its first record by 1, 13 or 2
   pub part-refuses : (n at : ℕ) → First (partTable f ram part answers) n at → refusesPart n ≡ true
@@ -138,15 +148,15 @@ module _ (f : Feed) (ram part answers : ℕ) where
 -- the opening
 module _ (left right : Chip) where
   abbrev opened : Feed
-  opened = feedOf left right (begun Open)
+  opened = asFeed left right (begun Open)
 
-  pub open-refused : (n at : ℕ) → First (feedTable opened) n at → openOf left right ≡ fedWith (feedOf left right (begun (Stopped n at))) n at
+  pub open-refused : (n at : ℕ) → First (feedTable opened) n at → openOf left right ≡ fedWith (asFeed left right (begun (Stopped n at))) n at
   unfolding openOf
-  open-refused = first-refuses (λ n at. fedWith (feedOf left right (begun (Stopped n at))) n at) (fedWith opened 0 0) (feedTable opened)
+  open-refused = first-refuses (λ n at. fedWith (asFeed left right (begun (Stopped n at))) n at) (fedWith opened 0 0) (feedTable opened)
 
   pub open-done : NoneHolds (feedTable opened) → openOf left right ≡ fedWith opened 0 0
   unfolding openOf
-  open-done = none-refuses (λ n at. fedWith (feedOf left right (begun (Stopped n at))) n at) (fedWith opened 0 0) (feedTable opened)
+  open-done = none-refuses (λ n at. fedWith (asFeed left right (begun (Stopped n at))) n at) (fedWith opened 0 0) (feedTable opened)
 
 -- what holds of a stopped feed's answer and of an open one's
 pub by-ending : {A : Type 0} (P : A → Type 0) (e : Ending) {repeat : ℕ → ℕ → A} {go : A} → ((n at : ℕ) → e ≡ Stopped n at → P (repeat n at))
@@ -154,13 +164,13 @@ pub by-ending : {A : Type 0} (P : A → Type 0) (e : Ending) {repeat : ℕ → �
 by-ending P Open repeated goes = goes refl
 by-ending P (Stopped n at) repeated goes = repeated n at refl
 
--- a feed that is stopped
+-- a part given to a feed that is stopped
 pub stays-stopped : (f : Feed) (ram part answers : List ℕ) (n at : ℕ) → f .progress .ending ≡ Stopped n at
     → partOf f ram part answers ≡ notTaken f ram answers n at
 unfolding partOf
 stays-stopped f ram part answers n at e = rw e
 
--- a feed that is open
+-- a part given to a feed that is open, and its closing
 pub goes-on : (f : Feed) (ram part answers : List ℕ) → f .progress .ending ≡ Open → partOf f ram part answers ≡ openPart f ram part answers
 unfolding partOf
 goes-on f ram part answers e = rw e
@@ -169,7 +179,7 @@ pub closes : (f : Feed) → f .progress .ending ≡ Open → closeOf f ≡ openC
 unfolding closeOf
 closes f e = rw e
 
--- a part given to it
+-- a part given to an open feed, by its table
 module _ (f : Feed) (ram part answers : List ℕ) where
   abbrev bytes : List ℕ
   bytes = joinedTo (f .progress) part
@@ -180,11 +190,11 @@ module _ (f : Feed) (ram part answers : List ℕ) where
   part-refused = first-refuses (notTaken f ram answers) _ (partTable f (length ram) (length part) (length answers))
 
   pub part-taken : NoneHolds (partTable f (length ram) (length part) (length answers))
-      → openPart f ram part answers ≡ tookPart f bytes (endedBytes (panelOf (f .left) (f .right) ram) bytes answers)
+      → openPart f ram part answers ≡ tookPart f bytes (endedBytes (asPanel (f .left) (f .right) ram) bytes answers)
   unfolding openPart
   part-taken = none-refuses (notTaken f ram answers) _ (partTable f (length ram) (length part) (length answers))
 
--- its closing
+-- the closing of an open feed, by its table
 module _ (f : Feed) where
   pub close-refused : (n at : ℕ) → First (feedTable f) n at → openClose f ≡ fedWith f n at
   unfolding openClose

@@ -5,10 +5,10 @@ use lib.ListN.{length}
 use Rattle.basics.specs.Choice.{if}
 use Rattle.basics.specs.Verdict.{verdict}
 use Rattle.basics.proofs.Table.{table-as, exactly-when}
-use Rattle.panel.specs.Panel.{panelOf}
-use Rattle.trace.specs.Feed.{begun, joinedTo, feedOf, feedTable, partTable, openOf, PartOutcome, tookPart, openPart, openClose}
+use Rattle.panel.specs.Panel.{asPanel}
+use Rattle.trace.specs.Feed.{begun, joinedTo, asFeed, feedTable, partTable, openOf, PartOutcome, tookPart, openPart, openClose}
 use Rattle.trace.specs.Refusals.{FeedNumbers}
-use Rattle.trace.specs.Replay.{verdictOf, endedBytes}
+use Rattle.trace.specs.Replay.{tallyVerdict, endedBytes}
 use Rattle.trace.specs.declared.progress.Ending.the-variants.{Open}
 use Rattle.trace.specs.declared.feed.Fed.{Fed}
 use Rattle.trace.proofs.FeedCases.{goes-on, closes}
@@ -17,17 +17,17 @@ pub feed-numbers : FeedNumbers
 unfolding openOf openPart openClose
 feed-numbers =
     record {
-      opened = λ left right. let lines = feedTable (feedOf left right (begun Open)) in
-          rw (table-as (λ (d : Fed). verdictOf (d .ran)) lines (λ n at. refl) refl) (exactly-when lines (verdict 0 0));
+      opened = λ left right. let lines = feedTable (asFeed left right (begun Open)) in
+          rw (table-as (λ (d : Fed). tallyVerdict (d .tally)) lines (λ n at. refl) refl) (exactly-when lines (verdict 0 0));
       part = λ f ram part answers e.
           let lines = partTable f (length ram) (length part) (length answers) in
           let bytes = joinedTo (f .progress) part in
-          let run = tookPart f bytes (endedBytes (panelOf (f .left) (f .right) ram) bytes answers) in
+          let run = tookPart f bytes (endedBytes (asPanel (f .left) (f .right) ram) bytes answers) in
           rw (goes-on f ram part answers e)
-          (rw (table-as (λ (o : PartOutcome). verdictOf (o .answer)) lines (λ n at. refl) refl) (exactly-when lines (verdictOf (run .answer))));
+          (rw (table-as (λ (o : PartOutcome). tallyVerdict (o .answer)) lines (λ n at. refl) refl) (exactly-when lines (tallyVerdict (run .answer))));
       closed = λ f e.
           let lines = feedTable f in
           rw (closes f e)
-          (rw (table-as (λ (d : Fed). verdictOf (d .ran)) lines (λ n at. refl) refl)
+          (rw (table-as (λ (d : Fed). tallyVerdict (d .tally)) lines (λ n at. refl) refl)
           (exactly-when lines (verdict (if (eqb (f .progress .kept) 0) 0 3) (f .progress .records))));
     }

@@ -9,7 +9,7 @@ use lib.Dec.{eqb}
 use lib.ListN.{length, drop, length-append}
 use lib.Seq.{take-at}
 use borrow.Author.Tests.{eqb-true, eqb-false, eq-eqb, ne-eqb}
-use Rattle.basics.specs.Run.{Run, ranTo}
+use Rattle.basics.specs.Run.{Run, asRun}
 use Rattle.basics.specs.Table.{First, NoneHolds}
 use Rattle.basics.proofs.Lists.{flat-append}
 use Rattle.basics.proofs.Run.{run-ends, run-join, run-cut, answers-bound}
@@ -17,15 +17,15 @@ use Rattle.basics.proofs.Table.{first-or-none}
 use Rattle.basics.proofs.Tests.{tested}
 use Rattle.sed1520.specs.Cycle.{Reply}
 use Rattle.panel.specs.Panel.{Whole}
-use Rattle.panel.specs.Panel.{Panel, panelTurn, panelRun}
+use Rattle.panel.specs.Panel.{Panel, panelStep, panelRun}
 use Rattle.sed1520.specs.Records.{front, wholeRecords}
 use Rattle.panel.proofs.PanelLaws.{after-whole}
 use Rattle.sed1520.proofs.Records.{records-length}
 use Rattle.panel.specs.Trace.{traceRun}
-use Rattle.trace.specs.Replay.{comparedIn, differingIn, replyBytes, repliesBytes, ended, endedBytes, ranOf}
-use Rattle.trace.specs.Feed.{keeping, cutOff, joinedTo, completedBy, feedOf, partTable, PartOutcome, fedBy}
+use Rattle.trace.specs.Replay.{comparedIn, differingIn, replyBytes, repliesBytes, ended, endedBytes, tally}
+use Rattle.trace.specs.Feed.{keeping, cutOff, joinedTo, completedBy, asFeed, partTable, PartOutcome, fedBy}
 use Rattle.trace.specs.Feed.{notTaken, movedOn, tookPart, partOf}
-use Rattle.trace.specs.FeedPromises.{Part, given, answersOf, refusesPart, feedAfter, fedAfter}
+use Rattle.trace.specs.FeedPromises.{Part, given, ownAnswers, refusesPart, feedAfter, fedAfter}
 use Rattle.trace.specs.declared.progress.Progress.{Progress}
 use Rattle.trace.specs.declared.progress.Ending.the-variants.{Open, Stopped}
 use Rattle.trace.specs.declared.feed.Feed.{Feed}
@@ -37,10 +37,10 @@ use Rattle.trace.proofs.KeptOver.{cut-off-length, cut-off-on, records-o
 
 -- what a part that is taken leaves: what it gives back, the image, and its own answers
 pub record Takes (f : Feed) (ram : List ℕ) (x : Part) (before after : Run Panel Reply) (bytes : List ℕ) : Type 0 where
-  pub ran : given f ram x .answer ≡ fedAfter after bytes .ran
+  pub tally : given f ram x .answer ≡ fedAfter after bytes .tally
   pub feed : given f ram x .lent .state ≡ fedAfter after bytes .feed
   pub image : given f ram x .lent .ram ≡ after .state .ram
-  pub answers : repliesBytes (before .answers) ++ answersOf f (given f ram x) ≡ repliesBytes (after .answers)
+  pub answers : repliesBytes (before .answers) ++ ownAnswers f (given f ram x) ≡ repliesBytes (after .answers)
 
 module _ (p : Panel) (bytes : List ℕ) (x : Part) where
   abbrev before : Run Panel Reply
@@ -61,7 +61,7 @@ module _ (p : Panel) (bytes : List ℕ) (x : Part) where
   -- a stopped feed
   module _ (refused : before .number ≡ 0 → ⊥) where
     same-run : after ≡ before
-    same-run = rw (records-on bytes (x .bytes)) (run-cut panelTurn p (wholeRecords bytes) (wholeRecords next) refused)
+    same-run = rw (records-on bytes (x .bytes)) (run-cut panelStep p (wholeRecords bytes) (wholeRecords next) refused)
 
     stopped-part : given f (before .state .ram) x ≡ notTaken f (before .state .ram) (x .buffer) (before .number) (length (before .answers))
     unfolding partOf f
@@ -70,14 +70,14 @@ module _ (p : Panel) (bytes : List ℕ) (x : Part) where
     same-fed : fedAfter after (bytes ++ x .bytes) ≡ fedAfter before bytes
     same-fed =
         rw (same-run, records-on bytes (x .bytes), ne-eqb (before .number) 0 refused)
-        (rw (differing-front (before .answers) (wholeRecords bytes) (wholeRecords next) (answers-bound panelTurn (wholeRecords bytes) p)))
+        (rw (differing-front (before .answers) (wholeRecords bytes) (wholeRecords next) (answers-bound panelStep (wholeRecords bytes) p)))
 
     takes-nothing : Takes f (before .state .ram) x before after (bytes ++ x .bytes)
     unfolding f
     takes-nothing =
         let none : 2 * (length (before .answers) - length (before .answers)) ≡ 0 = omega arith in
         record {
-          ran = ap (λ (o : PartOutcome). o .answer) stopped-part ∙ sym (ap (λ (d : Fed). d .ran) same-fed);
+          tally = ap (λ (o : PartOutcome). o .answer) stopped-part ∙ sym (ap (λ (d : Fed). d .tally) same-fed);
           feed = ap (λ (o : PartOutcome). o .lent .state) stopped-part ∙ sym (ap (λ (d : Fed). d .feed) same-fed);
           image = ap (λ (o : PartOutcome). o .lent .ram) stopped-part ∙ rw same-run;
           answers = rw stopped-part (rw (none, same-run) (append-nil (repliesBytes (before .answers))));
@@ -91,7 +91,7 @@ module _ (p : Panel) (bytes : List ℕ) (x : Part) where
     t : Progress
     t = keeping (cutOff bytes) (length (before .answers)) (comparedIn (before .answers)) (differingIn (before .answers) (wholeRecords bytes)) Open
 
-    still-open : f ≡ feedOf (before .state .left) (before .state .right) t
+    still-open : f ≡ asFeed (before .state .left) (before .state .right) t
     unfolding f t
     still-open = rw (eq-eqb (before .number) 0 done)
 
@@ -100,14 +100,14 @@ module _ (p : Panel) (bytes : List ℕ) (x : Part) where
     joined-next = rw (kept-back (cutOff bytes) _ _ _ Open few)
 
     all : length (before .answers) ≡ length (wholeRecords bytes)
-    all = run-ends panelTurn (front []) (wholeRecords bytes) p .done done
+    all = run-ends panelStep (front []) (wholeRecords bytes) p .done done
 
-    run-on : after ≡ ranTo (second .number) (before .answers ++ second .answers) (second .state)
-    run-on = rw (records-on bytes (x .bytes)) (run-join panelTurn p (wholeRecords bytes) (wholeRecords next) done)
+    run-on : after ≡ asRun (second .number) (before .answers ++ second .answers) (second .state)
+    run-on = rw (records-on bytes (x .bytes)) (run-join panelStep p (wholeRecords bytes) (wholeRecords next) done)
 
     -- the counts go on to those of all records
     moved : let n = length (second .answers) in
-        movedOn t next (ranOf (second .number) n (comparedIn (second .answers)) (differingIn (second .answers) (wholeRecords next)))
+        movedOn t next (tally (second .number) n (comparedIn (second .answers)) (differingIn (second .answers) (wholeRecords next)))
         ≡ feedAfter after (bytes ++ x .bytes) .progress
     unfolding movedOn t
     moved =
@@ -120,7 +120,7 @@ module _ (p : Panel) (bytes : List ℕ) (x : Part) where
         (⊎-elim (λ e. rw e) (λ e. rw e) (tested (eqb (second .number) 0))))
 
     abbrev g : Feed
-    g = feedOf (before .state .left) (before .state .right) t
+    g = asFeed (before .state .left) (before .state .right) t
 
     module _ (none : NoneHolds (partTable g (length (before .state .ram)) (length (x .bytes)) (length (x .buffer)))) where
       part-is : given f (before .state .ram) x ≡ tookPart g next (endedBytes (before .state) next (x .buffer))
@@ -132,7 +132,7 @@ module _ (p : Panel) (bytes : List ℕ) (x : Part) where
       takes-fed = ap fedBy part-is ∙ rw moved (rw run-on)
 
       -- its answers stand at the front of its buffer
-      own-answers : answersOf f (given f (before .state .ram) x) ≡ repliesBytes (second .answers)
+      own-answers : ownAnswers f (given f (before .state .ram) x) ≡ repliesBytes (second .answers)
       unfolding ended f
       own-answers =
           let a = length (before .answers) in
@@ -147,7 +147,7 @@ module _ (p : Panel) (bytes : List ℕ) (x : Part) where
       unfolding ended
       takes-all =
           record {
-            ran = ap (λ (d : Fed). d .ran) takes-fed;
+            tally = ap (λ (d : Fed). d .tally) takes-fed;
             feed = ap (λ (d : Fed). d .feed) takes-fed;
             image = ap (λ (o : PartOutcome). o .lent .ram) part-is ∙ rw run-on;
             answers = rw (own-answers, run-on) (sym (flat-append replyBytes (before .answers) (second .answers)));
@@ -206,7 +206,7 @@ module _ (p : Panel) (whole : Whole p) (bytes : List ℕ) (done : traceRun p byt
       NoneHolds (partTable (feedAfter r bytes) (length (r .state .ram)) (length (x .bytes)) (length (x .buffer)))
   nothing-refuses x short room countable =
       let r = traceRun p bytes in
-      let all = run-ends panelTurn (front []) (wholeRecords bytes) p .done done in
+      let all = run-ends panelStep (front []) (wholeRecords bytes) p .done done in
       let records = records-length (length bytes / 4) bytes in
       let kept = cut-off-length bytes in
       let image = after-whole (wholeRecords bytes) p whole .image in

@@ -10,7 +10,7 @@ use Rattle.panel.specs.Panel.{Whole}
 use Rattle.panel.specs.Panel.{Panel}
 use Rattle.panel.specs.Trace.{traceRun}
 use Rattle.trace.specs.Replay.{comparedIn, differingIn, repliesBytes}
-use Rattle.trace.specs.Feed.{begun, feedOf, openOf, PartOutcome, partOutcome, fedBy}
+use Rattle.trace.specs.Feed.{begun, asFeed, openOf, PartOutcome, partOutcome, fedBy}
 use Rattle.trace.specs.FeedPromises.{Part, joinedBytes, given, fedParts, Taken, fedAfter}
 use Rattle.trace.specs.FeedPromises.{FeedsRun, BuffersFit, Short, FittingTaken}
 use Rattle.trace.specs.declared.progress.Ending.the-variants.{Open}
@@ -46,10 +46,10 @@ module _ (p : Panel) where
       let rest = feeds-from xs (bytes ++ x .bytes) (rw (here .feed, here .image) at (h .1)) in
       let all = append-assoc bytes (x .bytes) (joinedBytes xs) in
       record {
-        fed = rw (here .ran, here .feed, here .image, ← all) (rest .fed);
-        image = rw (here .ran, here .feed, here .image, ← all) (rest .image);
+        fed = rw (here .tally, here .feed, here .image, ← all) (rest .fed);
+        image = rw (here .tally, here .feed, here .image, ← all) (rest .image);
         answers =
-            rw (← all, ← rest .answers, ← here .answers, here .ran, here .feed, here .image) (sym (append-assoc (answersAt bytes) _ _));
+            rw (← all, ← rest .answers, ← here .answers, here .tally, here .feed, here .image) (sym (append-assoc (answersAt bytes) _ _));
       }
 
   -- parts that are short, have room and are countable are taken
@@ -63,13 +63,13 @@ module _ (p : Panel) where
       let here = takes-if p bytes x (λ done. nothing-refuses p whole bytes done x (short .0) (room .0) (omega (arith, joined))) in
       let left : (length bytes % 4 + length (x .bytes)) % 4 ≡ length (bytes ++ x .bytes) % 4 = omega (arith, on) in
       let rest = taken-from whole xs (bytes ++ x .bytes) (short .1) (rw left at (room .1)) (omega (arith, joined, on)) in
-      rw (here .ran, here .feed, here .image) (own-number (traceRun p (bytes ++ x .bytes) .number) (run-number p whole (bytes ++ x .bytes)), rest)
+      rw (here .tally, here .feed, here .image) (own-number (traceRun p (bytes ++ x .bytes) .number) (run-number p whole (bytes ++ x .bytes)), rest)
 
   -- an opened feed took no bytes yet
   opened : Whole p → openOf (p .left) (p .right) ≡ fedAt []
   unfolding runOf pieces comparedIn differingIn
   opened whole =
-      let f = feedOf (p .left) (p .right) (begun Open) in
+      let f = asFeed (p .left) (p .right) (begun Open) in
       let right : StateRight f =
       record { left = whole .left; right = whole .right; few = omega arith; compared = omega arith; differing = omega arith } in
       open-done (p .left) (p .right) (right-state f right)

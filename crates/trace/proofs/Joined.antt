@@ -9,7 +9,7 @@ use lib.Seq.{take-at, drop-at, drop-drop}
 use Rattle.basics.proofs.Lists.{flat-append, flat-length}
 use Rattle.basics.proofs.Run.{run-ends, run-join, run-cut, answers-bound}
 use Rattle.sed1520.specs.Cycle.{Reply}
-use Rattle.panel.specs.Panel.{Panel, panelTurn, panelRun}
+use Rattle.panel.specs.Panel.{Panel, panelStep, panelRun}
 use Rattle.sed1520.specs.Records.{front}
 use Rattle.sed1520.specs.declared.bus.Record.{Record}
 use Rattle.trace.specs.Replay.{ReplayOutcome, replyBytes, repliesBytes, endedAt, panelAfter, ended}
@@ -39,22 +39,24 @@ module _ (p : Panel) (rs : List Record) (buffer : List ℕ) where
   -- done, all of them are answered
   pub ended-all : first .answer .number ≡ 0 → first .answer .place ≡ length rs
   unfolding ended
-  ended-all done = run-ends panelTurn (front []) rs p .done done
+  ended-all done = run-ends panelStep (front []) rs p .done done
 
   module _ (qs : List Record) where
-    pub ended-join : first .answer .number ≡ 0 → let n = 2 * first .answer .place in let second = ended (panelRun (panelAfter first) qs) qs (drop n (first .lent .answers)) in
+    pub ended-join : first .answer .number ≡ 0
+        → let n = 2 * first .answer .place in let second = ended (panelRun (panelAfter first) qs) qs (drop n (first .lent .answers)) in
         ended (panelRun p (rs ++ qs)) (rs ++ qs) buffer
-        ≡ endedAt (second .answer .number) (first .answer .place + second .answer .place) (first .answer .compared + second .answer .compared) (first .answer .differing + second .answer .differing)
+        ≡ endedAt (second .answer .number) (first .answer .place + second .answer .place) (first .answer .compared + second .answer .compared)
+        (first .answer .differing + second .answer .differing)
         (panelAfter second) (take n (first .lent .answers) ++ second .lent .answers)
     unfolding ended
     ended-join done =
         let given = panelRun p rs .answers in
         let more = panelRun (panelRun p rs .state) qs .answers in
-        rw (run-join panelTurn p rs qs done)
+        rw (run-join panelStep p rs qs done)
         (rw (compared-join given more, differing-join given more rs qs (ended-all done), answers-join given more buffer)
         (rw length-append))
 
     pub ended-cut : (first .answer .number ≡ 0 → ⊥) → ended (panelRun p (rs ++ qs)) (rs ++ qs) buffer ≡ first
     unfolding ended
     ended-cut h =
-        rw (run-cut panelTurn p rs qs h) (rw (differing-front (panelRun p rs .answers) rs qs (answers-bound panelTurn rs p)))
+        rw (run-cut panelStep p rs qs h) (rw (differing-front (panelRun p rs .answers) rs qs (answers-bound panelStep rs p)))

@@ -9,7 +9,7 @@ pub mod Joined
 pub mod KeptOver
 pub mod FeedCases
 pub mod FeedNumbers
-pub mod OverRecords
+pub mod OverBytes
 pub mod PartCases
 pub mod HeldFeed
 pub mod Feeding

@@ -9,15 +9,15 @@ use Rattle.basics.specs.Table.{First, NoneHolds}
 use Rattle.basics.proofs.Table.{each-line}
 use Rattle.basics.proofs.Tests.{when}
 use Rattle.sed1520.specs.Chip.{inRange}
-use Rattle.sed1520.specs.ChipRecord.{recordRight}
+use Rattle.sed1520.specs.ChipBytes.{bytesPass}
 use Rattle.sed1520.specs.declared.registers.Chip.{Chip}
 use Rattle.panel.specs.Chips.{chipsBytes, panelIn}
-use Rattle.panel.specs.Panel.{Panel, panelOf}
+use Rattle.panel.specs.Panel.{Panel, asPanel}
 use Rattle.panel.proofs.TwoChips.{two-length, two-there}
-use Rattle.trace.specs.Replay.{InPlace, inPlace, endedBytes, rewritten, overRecords}
-use Rattle.trace.specs.Feed.{joinedTo, feedOf, partTable, fedOf, PartOutcome, partOutcome, notTaken, tookPart, movedOn, openPart, partOf}
-use Rattle.trace.specs.FeedInPlace.{feedIn, fedInPlace, asRecords, partInPlace}
-use Rattle.trace.specs.declared.Ran.{Ran}
+use Rattle.trace.specs.Replay.{InPlace, inPlace, endedBytes, rewritten, overBytes}
+use Rattle.trace.specs.Feed.{joinedTo, asFeed, partTable, asFed, PartOutcome, partOutcome, notTaken, tookPart, movedOn, openPart, partOf}
+use Rattle.trace.specs.FeedInPlace.{feedIn, fedInPlace, partOverBytes, partInPlace}
+use Rattle.trace.specs.declared.Tally.{Tally}
 use Rattle.trace.specs.declared.progress.Progress.{Progress}
 use Rattle.trace.specs.declared.progress.Ending.{Ending}
 use Rattle.trace.specs.declared.progress.Ending.the-variants.{Open, Stopped}
@@ -34,38 +34,38 @@ module _ (chips ram part answers : List ℕ) (t : Progress) where
   unfolding partInPlace
   chips-wrong e h = rw (e, ne-eqb (length chips) 24 h)
 
-  module _ (records : length chips ≡ 24) where
-    pub still-open : t .ending ≡ Open → partInPlace chips t ram part answers ≡ asRecords chips (openPart (feedIn chips t) ram part answers)
+  module _ (size : length chips ≡ 24) where
+    pub still-open : t .ending ≡ Open → partInPlace chips t ram part answers ≡ partOverBytes chips (openPart (feedIn chips t) ram part answers)
     unfolding partInPlace
-    still-open e = rw (e, eq-eqb (length chips) 24 records)
+    still-open e = rw (e, eq-eqb (length chips) 24 size)
 
     pub not-taken : (n at : ℕ) → First (partTable (feedIn chips t) (length ram) (length part) (length answers)) n at
-        → inPlace (fedInPlace t n at) chips ram answers ≡ asRecords chips (openPart (feedIn chips t) ram part answers)
-    not-taken n at first = rw (part-refused (feedIn chips t) ram part answers n at first) (rw (kept chips records))
+        → inPlace (fedInPlace t n at) chips ram answers ≡ partOverBytes chips (openPart (feedIn chips t) ram part answers)
+    not-taken n at first = rw (part-refused (feedIn chips t) ram part answers n at first) (rw (kept chips size))
 
-    pub part-ran : NoneHolds (partTable (feedIn chips t) (length ram) (length part) (length answers))
-        → (i : InPlace Ran) → i ≡ overRecords chips (endedBytes (panelIn chips ram) (joinedTo t part) answers)
+    pub part-run : NoneHolds (partTable (feedIn chips t) (length ram) (length part) (length answers))
+        → (i : InPlace Tally) → i ≡ overBytes chips (endedBytes (panelIn chips ram) (joinedTo t part) answers)
         → (next : Progress) → next ≡ movedOn t (joinedTo t part) (i .answer)
         → inPlace (fedInPlace next (i .answer .number) (next .records)) (i .lent .state) (i .lent .ram) (i .lent .answers)
-        ≡ asRecords chips (openPart (feedIn chips t) ram part answers)
-    part-ran none i ran next moved = rw (part-taken (feedIn chips t) ram part answers none) (rw moved (rw ran))
+        ≡ partOverBytes chips (openPart (feedIn chips t) ram part answers)
+    part-run none i ran next moved = rw (part-taken (feedIn chips t) ram part answers none) (rw moved (rw ran))
 
 -- by value
 module _ (left right : Chip) (t : Progress) (ram part answers : List ℕ) where
   -- the panel after a part
   abbrev panelLeft : PartOutcome → Panel
-  panelLeft o = panelOf (o .lent .state .left) (o .lent .state .right) (o .lent .ram)
+  panelLeft o = asPanel (o .lent .state .left) (o .lent .state .right) (o .lent .ram)
 
   abbrev Stays : PartOutcome → Type 0
-  Stays o = panelLeft o ≡ panelOf left right ram
+  Stays o = panelLeft o ≡ asPanel left right ram
 
   -- a chip out of range: the part is not taken
-  out-of-range : (inRange left && inRange right) ≡ false → Stays (partOf (feedOf left right t) ram part answers)
+  out-of-range : (inRange left && inRange right) ≡ false → Stays (partOf (asFeed left right t) ram part answers)
   unfolding partOf openPart
   out-of-range out =
-      let f = feedOf left right t in
+      let f = asFeed left right t in
       by-ending Stays (t .ending) (λ n at e. refl)
-      (λ _. each-line (notTaken f ram answers) (tookPart f (joinedTo t part) (endedBytes (panelOf left right ram) (joinedTo t part) answers)) Stays
+      (λ _. each-line (notTaken f ram answers) (tookPart f (joinedTo t part) (endedBytes (asPanel left right ram) (joinedTo t part) answers)) Stays
       (partTable f (length ram) (length part) (length answers)) (λ n at _. refl)
       (λ none. let state = part-right f _ _ _ none .state in
       absurd (true≢false (rw (state .left, state .right) at out))))
@@ -74,25 +74,26 @@ module _ (left right : Chip) (t : Progress) (ram part answers : List ℕ) where
   theirs = chipsBytes left right
 
   same-bytes : rewritten theirs left right ≡ theirs
-  same-bytes = when (λ (l : List ℕ). l ≡ theirs) (recordRight (take 12 theirs) && recordRight (drop 12 theirs)) (λ _. refl) (λ _. refl)
+  same-bytes = when (λ (l : List ℕ). l ≡ theirs) (bytesPass (take 12 theirs) && bytesPass (drop 12 theirs)) (λ _. refl) (λ _. refl)
 
   -- over the bytes of both chips it is the part by value, written back
-  pub on-bytes : partInPlace theirs t ram part answers ≡ asRecords theirs (partOf (feedOf left right t) ram part answers)
+  pub on-bytes : partInPlace theirs t ram part answers ≡ partOverBytes theirs (partOf (asFeed left right t) ram part answers)
   on-bytes = either (t .ending) refl
     where
-      either : (e : Ending) → t .ending ≡ e → partInPlace theirs t ram part answers ≡ asRecords theirs (partOf (feedOf left right t) ram part answers)
+      either : (e : Ending) → t .ending ≡ e
+          → partInPlace theirs t ram part answers ≡ partOverBytes theirs (partOf (asFeed left right t) ram part answers)
       either (Stopped n at) e =
-          still-stopped theirs ram part answers t n at e ∙ rw (stays-stopped (feedOf left right t) ram part answers n at e) (rw same-bytes)
+          still-stopped theirs ram part answers t n at e ∙ rw (stays-stopped (asFeed left right t) ram part answers n at e) (rw same-bytes)
       either Open e =
           still-open theirs ram part answers t (two-length left right) e
-          ∙ rw (goes-on (feedOf left right t) ram part answers e, two-there left right)
+          ∙ rw (goes-on (asFeed left right t) ram part answers e, two-there left right)
 
   pub by-value : (chips : List ℕ) → chips ≡ theirs → (i : InPlace FedInPlace) → i ≡ partInPlace chips t ram part answers
-      → partOutcome (fedOf (i .answer .ran) (feedIn (i .lent .state) (i .answer .progress))) (i .lent .ram) (i .lent .answers)
-      ≡ partOf (feedOf left right t) ram part answers
+      → partOutcome (asFed (i .answer .tally) (feedIn (i .lent .state) (i .answer .progress))) (i .lent .ram) (i .lent .answers)
+      ≡ partOf (asFeed left right t) ram part answers
   by-value chips same i e =
-      let o = partOf (feedOf left right t) ram part answers in
+      let o = partOf (asFeed left right t) ram part answers in
       let back = panel-back left right ram (panelLeft o) out-of-range in
-      let there : i ≡ asRecords theirs o = (rw same at e) ∙ on-bytes in
+      let there : i ≡ partOverBytes theirs o = (rw same at e) ∙ on-bytes in
       let next = o .lent .state .progress in
-      rw there (ap (λ (p : Panel). partOutcome (fedOf (o .answer) (feedOf (p .left) (p .right) next)) (o .lent .ram) (o .lent .answers)) back)
+      rw there (ap (λ (p : Panel). partOutcome (asFed (o .answer) (asFeed (p .left) (p .right) next)) (o .lent .ram) (o .lent .answers)) back)

@@ -12,8 +12,8 @@ use Rattle.basics.proofs.Tests.{neither}
 use Rattle.sed1520.specs.Chip.{outOfRange}
 use Rattle.panel.specs.Panel.{Panel}
 use Rattle.panel.specs.Trace.{traceSizesWrong}
-use Rattle.trace.specs.Replay.{ReplayOutcome, refusedAt, verdictOf, endedBytes, sizesWrong, replayTable, replayOf}
-use Rattle.trace.specs.Promises.{Runs}
+use Rattle.trace.specs.Replay.{ReplayOutcome, refusedAt, tallyVerdict, endedBytes, sizesWrong, replayTable, replayOf}
+use Rattle.trace.specs.Promises.{Replayable}
 use Rattle.trace.specs.Refusals.{ReplayNumbers}
 
 pub record Sizes (bytes records ram answers : ℕ) : Type 0 where
@@ -50,7 +50,7 @@ module _ (p : Panel) (trace answers : List ℕ) where
   replay-passed = none-refuses (λ n at. refusedAt n at p answers) (endedBytes p trace answers) table
 
   -- none of numbers 1 to 3
-  pub runs : Runs p trace answers → replayOf p trace answers ≡ endedBytes p trace answers
+  pub runs : Replayable p trace answers → replayOf p trace answers ≡ endedBytes p trace answers
   runs r =
       let sizes = right-sizes (length trace) (length trace / 4) (length (p .ram)) (length answers) (r .size) (r .panel .image) (r .space) in
       replay-passed (sizes, (ap not (r .panel .left), (ap not (r .panel .right), (ap not (eq-eqb _ 0 (r .whole)), tt))))
@@ -59,5 +59,5 @@ pub replay-numbers : ReplayNumbers
 unfolding replayOf
 replay-numbers p trace answers =
     let run = endedBytes p trace answers in
-    let by-table = exactly-when (table p trace answers) (verdictOf (run .answer)) in
-    rw (table-as (λ (o : ReplayOutcome). verdictOf (o .answer)) (table p trace answers) (λ n at. refl) refl) by-table
+    let by-table = exactly-when (table p trace answers) (tallyVerdict (run .answer)) in
+    rw (table-as (λ (o : ReplayOutcome). tallyVerdict (o .answer)) (table p trace answers) (λ n at. refl) refl) by-table

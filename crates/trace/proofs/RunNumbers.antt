@@ -11,7 +11,7 @@ use borrow.Author.Tests.{eqb-true, eqb-false, ne-eqb, leb-true}
 use Rattle.basics.proofs.Run.{run-ends}
 use Rattle.basics.proofs.Tests.{tested, either, both}
 use Rattle.panel.specs.Panel.{Whole}
-use Rattle.panel.specs.Panel.{Panel, panelTurn}
+use Rattle.panel.specs.Panel.{Panel, panelStep}
 use Rattle.panel.specs.Promises.{isRecordNumber}
 use Rattle.sed1520.specs.Records.{front, wholeRecords}
 use Rattle.panel.proofs.PanelLaws.{after-whole}
@@ -48,7 +48,7 @@ run-number p whole bytes =
     let r = traceRun p bytes in
     ⊎-elim
     (λ z. rw (eqb-true (r .number) 0 z))
-    (λ z. let why = run-ends panelTurn (front []) (wholeRecords bytes) p .refused (eqb-false (r .number) 0 z) in
+    (λ z. let why = run-ends panelStep (front []) (wholeRecords bytes) p .refused (eqb-false (r .number) 0 z) in
     let at-it = getD (wholeRecords bytes) (length (r .answers)) (front []) in
     rw why at (every-record-number (r .state) (after-whole (wholeRecords bytes) p whole) at-it))
     (tested (eqb (r .number) 0))

@@ -13,10 +13,10 @@ use Rattle.basics.specs.Table.{Cause, First, NoneHolds}
 use Rattle.basics.proofs.Table.{each-line, first-or-none}
 use Rattle.basics.proofs.Tests.{when}
 use Rattle.sed1520.specs.declared.registers.Chip.{Chip}
-use Rattle.panel.specs.Panel.{panelOf, Whole}
+use Rattle.panel.specs.Panel.{asPanel, Whole}
 use Rattle.panel.specs.Trace.{traceRun}
 use Rattle.trace.specs.Replay.{ReplayOutcome, ended, endedBytes}
-use Rattle.trace.specs.Feed.{begun, joinedTo, feedOf, feedTable, partTable, fedWith, openOf, partOutcome, fedBy}
+use Rattle.trace.specs.Feed.{begun, joinedTo, asFeed, feedTable, partTable, fedWith, openOf, partOutcome, fedBy}
 use Rattle.trace.specs.Feed.{notTaken, movedOn, tookPart, partOf, stoppedWith, openClose, closeOf}
 use Rattle.trace.specs.FeedPromises.{Part, given, fedParts, refusesPart, StoppedRepeats, RefusedAsIfNot}
 use Rattle.trace.specs.declared.progress.Ending.the-variants.{Open, Stopped}
@@ -42,13 +42,13 @@ module _ (f : Feed) (n at : ℕ) (stopped : f .progress .ending ≡ Stopped n at
 
 -- what a call gave back says how its feed is stopped
 abbrev Stops : Fed → Type 0
-Stops d = d .feed .progress .ending ≡ Stopped (d .ran .number) (d .ran .place)
+Stops d = d .feed .progress .ending ≡ Stopped (d .tally .number) (d .tally .place)
 
-open-stops : (left right : Chip) → (openOf left right .ran .number ≡ 0 → ⊥) → Stops (openOf left right)
+open-stops : (left right : Chip) → (openOf left right .tally .number ≡ 0 → ⊥) → Stops (openOf left right)
 unfolding openOf
 open-stops left right =
-    let f = feedOf left right (begun Open) in
-    each-line (λ n at. fedWith (feedOf left right (begun (Stopped n at))) n at) (fedWith f 0 0) (λ (d : Fed). (d .ran .number ≡ 0 → ⊥) → Stops d)
+    let f = asFeed left right (begun Open) in
+    each-line (λ n at. fedWith (asFeed left right (begun (Stopped n at))) n at) (fedWith f 0 0) (λ (d : Fed). (d .tally .number ≡ 0 → ⊥) → Stops d)
     (feedTable f) (λ n at _ _. refl) (λ _ h. absurd (h refl))
 
 -- records run on a feed stop it where one is refused
@@ -61,7 +61,7 @@ module _ (f : Feed) (ram part answers : List ℕ) (is-open : f .progress .ending
   lines = partTable f (length ram) (length part) (length answers)
 
   abbrev outcome : ReplayOutcome
-  outcome = endedBytes (panelOf (f .left) (f .right) ram) (joinedTo (f .progress) part) answers
+  outcome = endedBytes (asPanel (f .left) (f .right) ram) (joinedTo (f .progress) part) answers
 
   taken-here : NoneHolds lines → partOf f ram part answers ≡ tookPart f (joinedTo (f .progress) part) outcome
   taken-here none = goes-on f ram part answers is-open ∙ part-taken f ram part answers none
@@ -69,7 +69,7 @@ module _ (f : Feed) (ram part answers : List ℕ) (is-open : f .progress .ending
   refused-here : (n at : ℕ) → First lines n at → partOf f ram part answers ≡ notTaken f ram answers n at
   refused-here n at first = goes-on f ram part answers is-open ∙ part-refused f ram part answers n at first
 
-  part-stops : let d = fedBy (partOf f ram part answers) in (d .ran .number ≡ 0 → ⊥) → refusesPart (d .ran .number) ≡ false → Stops d
+  part-stops : let d = fedBy (partOf f ram part answers) in (d .tally .number ≡ 0 → ⊥) → refusesPart (d .tally .number) ≡ false → Stops d
   part-stops h taken =
       ⊎-elim
       (λ first. let is = refused-here _ _ (first .1 .1) in
@@ -85,30 +85,31 @@ module _ (f : Feed) (ram part answers : List ℕ) (is-open : f .progress .ending
       ⊎-elim
       (λ first. rw (refused-here _ _ (first .1 .1)))
       (λ none. let right = part-right f _ _ _ none in
-      let whole : Whole (panelOf (f .left) (f .right) ram) =
+      let whole : Whole (asPanel (f .left) (f .right) ram) =
       record { left = right .state .left; right = right .state .right; image = right .sizes .image } in
       let bytes = joinedTo (f .progress) part in
-      let own = own-number (traceRun (panelOf (f .left) (f .right) ram) bytes .number) (run-number _ whole bytes) in
+      let own = own-number (traceRun (asPanel (f .left) (f .right) ram) bytes .number) (run-number _ whole bytes) in
       absurd (true≢false (sym (rw (taken-here none) at refused) ∙ own)))
       (first-or-none lines)
 
-close-stops : (f : Feed) → f .progress .ending ≡ Open → (closeOf f .ran .number ≡ 2 → ⊥) → Stops (closeOf f)
+close-stops : (f : Feed) → f .progress .ending ≡ Open → (closeOf f .tally .number ≡ 2 → ⊥) → Stops (closeOf f)
 unfolding openClose
 close-stops f is-open =
     rw (closes f is-open)
-    (each-line (fedWith f) (stoppedWith f (if (eqb (f .progress .kept) 0) 0 3)) (λ (d : Fed). (d .ran .number ≡ 2 → ⊥) → Stops d) (feedTable f)
+    (each-line (fedWith f) (stoppedWith f (if (eqb (f .progress .kept) 0) 0 3)) (λ (d : Fed). (d .tally .number ≡ 2 → ⊥) → Stops d) (feedTable f)
     (λ n at first h. absurd (h (state-two f n at first)))
     (λ _ h. refl))
 
-close-refused : (f : Feed) → f .progress .ending ≡ Open → closeOf f .ran .number ≡ 2 → closeOf f .feed ≡ f
+close-refused : (f : Feed) → f .progress .ending ≡ Open → closeOf f .tally .number ≡ 2 → closeOf f .feed ≡ f
 unfolding openClose
 close-refused f is-open =
     rw (closes f is-open)
-    (each-line (fedWith f) (stoppedWith f (if (eqb (f .progress .kept) 0) 0 3)) (λ (d : Fed). d .ran .number ≡ 2 → d .feed ≡ f) (feedTable f)
+    (each-line (fedWith f) (stoppedWith f (if (eqb (f .progress .kept) 0) 0 3)) (λ (d : Fed). d .tally .number ≡ 2 → d .feed ≡ f) (feedTable f)
     (λ n at _ _. refl)
-    (λ _. when (λ (n : ℕ). n ≡ 2 → stoppedWith f n .feed ≡ f) (eqb (f .progress .kept) 0) (λ _ e. absurd (omega arith)) (λ _ e. absurd (omega arith))))
+    (λ _. when (λ (n : ℕ). n ≡ 2 → stoppedWith f n .feed ≡ f) (eqb (f .progress .kept) 0) (λ _ e. absurd (omega arith))
+    (λ _ e. absurd (omega arith))))
 
--- of a stopped feed and of an open one
+-- what holds of a stopped feed and of an open one holds of any feed
 either-way : {P : Type 0} (f : Feed) → ((n at : ℕ) → f .progress .ending ≡ Stopped n at → P) → (f .progress .ending ≡ Open → P) → P
 either-way {P} f = by-ending (λ (_ : Unit {0}). P) (f .progress .ending) {repeat = λ n at. tt} {go = tt}
 

@@ -10,19 +10,19 @@ use lib.Dec.{eqb}
 use lib.ListN.{length, getD, take, drop, set, length-append, length-set}
 use lib.Seq.{take-all, take-suc, split-at}
 use Rattle.basics.specs.Choice.{if}
-use Rattle.basics.specs.Run.{ranTo, runOf}
+use Rattle.basics.specs.Run.{asRun, runOf}
 use Rattle.basics.proofs.Filling.{Begun, begun-none, begun-byte}
 use Rattle.basics.proofs.Lists.{flat-append}
 use Rattle.basics.proofs.Run.{one-more, refused-next}
-use Rattle.panel.specs.Chips.{panelIn, RecordsFit}
+use Rattle.panel.specs.Chips.{panelIn, BothPass}
 use Rattle.sed1520.specs.Cycle.{Reply}
-use Rattle.panel.specs.Panel.{Panel, outcomeOf, panelTurn, panelRun}
+use Rattle.panel.specs.Panel.{Panel, outcomeOf, panelStep, panelRun}
 use Rattle.panel.specs.Promises.{StepsPanel}
-use Rattle.sed1520.specs.RecordStep.{acted}
-use Rattle.panel.specs.Step.{stepRecords}
+use Rattle.sed1520.specs.BytesStep.{acted}
+use Rattle.panel.specs.Step.{stepChips}
 use Rattle.sed1520.specs.Records.{wholeRecords}
 use Rattle.sed1520.specs.declared.bus.Record.{Record}
-use Rattle.sed1520.specs.declared.record_step.BareAnswer.{BareAnswer}
+use Rattle.sed1520.specs.declared.bytes_step.BareAnswer.{BareAnswer}
 use Rattle.panel.proofs.PanelLaws.{refused-record}
 use Rattle.sed1520.proofs.Records.{recordFrom, front-at, records-length, record-at}
 use Rattle.panel.proofs.RecordSteps.{every-record-step}
@@ -34,10 +34,10 @@ pub record Upto (p : Panel) (trace buffer chips ram answers : List ℕ) (compare
   pub size : length trace ≤ 65536
   pub enough : 2 * (length trace / 4) ≤ length buffer
   pub within : at ≤ length trace / 4
-  pub fits : RecordsFit chips ram
+  pub fits : BothPass chips ram
   pub replies : List Reply
   pub replied : length replies ≡ at
-  pub run : panelRun p (take at (wholeRecords trace)) ≡ ranTo 0 replies (panelIn chips ram)
+  pub run : panelRun p (take at (wholeRecords trace)) ≡ asRun 0 replies (panelIn chips ram)
   pub so-compared : compared ≡ comparedIn replies
   pub so-differing : differing ≡ differingIn replies (wholeRecords trace)
   pub written : Begun buffer (repliesBytes replies) (2 * at) answers
@@ -46,7 +46,7 @@ pub record Upto (p : Panel) (trace buffer chips ram answers : List ℕ) (compare
   pub less : differing ≤ at
 
 -- before the first record
-pub started : (trace buffer chips ram : List ℕ) → RecordsFit chips ram → length trace ≤ 65536 → 2 * (length trace / 4) ≤ length buffer
+pub started : (trace buffer chips ram : List ℕ) → BothPass chips ram → length trace ≤ 65536 → 2 * (length trace / 4) ≤ length buffer
     → Upto (panelIn chips ram) trace buffer chips ram buffer 0 0 0
 unfolding runOf flatMap comparedIn differingIn
 started trace buffer chips ram fits size enough =
@@ -75,7 +75,7 @@ module _ {p : Panel} {trace buffer chips ram answers : List ℕ} {compared diffe
   all = records-length (length trace / 4) trace
 
   -- the replay ends here
-  ends : (n : ℕ) → traceRun p trace ≡ ranTo n (upto .replies) (panelIn chips ram)
+  ends : (n : ℕ) → traceRun p trace ≡ asRun n (upto .replies) (panelIn chips ram)
       → endedAt n at compared differing (panelIn chips ram) answers ≡ endedBytes p trace buffer
   unfolding ended
   ends n e =
@@ -86,7 +86,7 @@ module _ {p : Panel} {trace buffer chips ram answers : List ℕ} {compared diffe
 
   -- a record is left, read from the trace, and given to its chip
   module _ (more : at < length trace / 4) {a : BareAnswer} {chips′ ram′ : List ℕ}
-      (step : acted a chips′ ram′ ≡ stepRecords (recordFrom trace (4 * at)) chips ram) where
+      (step : acted a chips′ ram′ ≡ stepChips (recordFrom trace (4 * at)) chips ram) where
     abbrev bus : Record
     bus = recordFrom trace (4 * at)
 
@@ -99,13 +99,13 @@ module _ {p : Panel} {trace buffer chips ram answers : List ℕ} {compared diffe
     nonzero : (a .number ≡ 0 → ⊥) → outcomeOf (panelIn chips ram) bus .answer .number ≡ 0 → ⊥
     nonzero h e = h (on-panel .number ∙ e)
 
-    pub fits-again : RecordsFit chips′ ram′
+    pub fits-again : BothPass chips′ ram′
     fits-again = on-panel .fit
 
     pub refused-here : (a .number ≡ 0 → ⊥)
         → endedAt (a .number) at compared differing (panelIn chips′ ram′) answers ≡ endedBytes p trace buffer
     refused-here h =
-        let next = refused-next panelTurn p (take at records) (upto .run) bus (drop (suc at) records) (nonzero h) in
+        let next = refused-next panelStep p (take at records) (upto .run) bus (drop (suc at) records) (nonzero h) in
         let cut = rw here at (split-at records at bus (omega (arith, all))) in
         let same = on-panel .panel ∙ refused-record (panelIn chips ram) bus (nonzero h) in
         ap (λ (q : Panel). endedAt (a .number) at compared differing q answers) same
@@ -121,7 +121,7 @@ module _ {p : Panel} {trace buffer chips ram answers : List ℕ} {compared diffe
     unfolding flatMap
     accepted-here h one-is other-is =
         let replies = upto .replies in
-        let next = one-more panelTurn p (take at records) (upto .run) bus (sym (on-panel .number) ∙ h) in
+        let next = one-more panelStep p (take at records) (upto .run) bus (sym (on-panel .number) ∙ h) in
         let records-then = rw here at (take-suc records at bus (omega (arith, all))) in
         let two : 2 * (at + 1) ≡ 2 * at + 1 + 1 = omega arith in
         let first = begun-byte (upto .written) (a .kind) (omega (arith, upto .enough)) in

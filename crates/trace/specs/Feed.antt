@@ -10,17 +10,17 @@ use Rattle.basics.specs.Table.{Cause, cause, leftThenRight, unlessRefused, verd
 use Rattle.basics.specs.Verdict.{verdict, Result, result}
 use Rattle.basics.specs.declared.verdict.Verdict.{Verdict}
 use Rattle.sed1520.specs.declared.registers.Chip.{Chip}
-use Rattle.panel.specs.Panel.{panelOf}
+use Rattle.panel.specs.Panel.{asPanel}
 use Rattle.sed1520.specs.Chip.{outOfRange}
-use Rattle.trace.specs.Replay.{ReplayOutcome, Lent, lent, endedBytes, sizesWrong, ranOf}
-use Rattle.trace.specs.declared.Ran.{Ran}
+use Rattle.trace.specs.Replay.{ReplayOutcome, Lent, lent, endedBytes, sizesWrong, tally}
+use Rattle.trace.specs.declared.Tally.{Tally}
 use Rattle.trace.specs.declared.progress.Ending.{Ending}
 use Rattle.trace.specs.declared.progress.Ending.the-variants.{Open, Stopped}
 use Rattle.trace.specs.declared.progress.Progress.{Progress}
 use Rattle.trace.specs.declared.feed.Feed.{Feed}
 use Rattle.trace.specs.declared.feed.Fed.{Fed}
 
--- bytes to keep over, at most three, with counts and whether the feed still takes parts
+-- a progress: the bytes to keep over, at most three, the counts, and whether the feed still takes parts
 abbrev pub keeping : List ℕ → ℕ → ℕ → ℕ → Ending → Progress
 keeping rest records compared differing ending =
     record {
@@ -34,11 +34,11 @@ keeping rest records compared differing ending =
       ending = ending;
     }
 
--- nothing taken yet
+-- the progress of a feed that has taken nothing yet
 abbrev pub begun : Ending → Progress
 begun ending = keeping [] 0 0 0 ending
 
--- stopped with a number and a place, all else as it was
+-- a progress stopped with a number and a place, all else as it was
 abbrev pub stoppedAt : ℕ → ℕ → Progress → Progress
 stoppedAt n at t =
     record {
@@ -52,7 +52,7 @@ stoppedAt n at t =
       ending = Stopped n at;
     }
 
--- the bytes kept over
+-- the bytes that a progress keeps over
 abbrev pub keptBytes : Progress → List ℕ
 keptBytes t = take (t .kept) (t .first ∷ t .second ∷ t .third ∷ [])
 
@@ -72,7 +72,7 @@ completedBy kept part = (kept + part) / 4
 abbrev pub mostRecords : ℕ
 mostRecords = 4294967295
 
--- number 13: more records in all than that
+-- number 13: more records in all than a feed may take
 abbrev pub tooMany : ℕ → ℕ → Bool
 tooMany records more = ltb mostRecords (records + more)
 
@@ -80,9 +80,9 @@ tooMany records more = ltb mostRecords (records + more)
 unfoldable pub progressWrong : Progress → Bool
 progressWrong t = ltb 3 (t .kept) || (ltb (t .records) (t .compared) || ltb (t .compared) (t .differing))
 
--- both chips and what was taken so far are a feed
-abbrev pub feedOf : Chip → Chip → Progress → Feed
-feedOf left right t = record { left = left; right = right; progress = t }
+-- the feed of two chips and a progress
+abbrev pub asFeed : Chip → Chip → Progress → Feed
+asFeed left right t = record { left = left; right = right; progress = t }
 
 -- number 2 of a feed: the left chip, the right one, then place 3
 abbrev pub feedTable : Feed → List Cause
@@ -102,23 +102,23 @@ stateVerdict f = verdictBy (feedTable f) (verdict 0 0)
 unfoldable pub partVerdict : Feed → ℕ → ℕ → ℕ → Verdict
 partVerdict f ram part answers = verdictBy (partTable f ram part answers) (verdict 0 0)
 
--- a number and its place with the counts so far
-abbrev pub soFar : Progress → ℕ → ℕ → Ran
-soFar t n at = ranOf n at (t .compared) (t .differing)
+-- the tally of a number and its place, with the counts so far
+abbrev pub soFar : Progress → ℕ → ℕ → Tally
+soFar t n at = tally n at (t .compared) (t .differing)
 
 -- what a call gives back beside the next feed, and that feed
-abbrev pub fedOf : Ran → Feed → Fed
-fedOf ran f = record { ran = ran; feed = f }
+abbrev pub asFed : Tally → Feed → Fed
+asFed ran f = record { tally = ran; feed = f }
 
 -- a feed with a number, its place and the feed's counts so far
 abbrev pub fedWith : Feed → ℕ → ℕ → Fed
-fedWith f n at = fedOf (soFar (f .progress) n at) f
+fedWith f n at = asFed (soFar (f .progress) n at) f
 
--- the opening: stopped with number 2 where a chip is out of range
+-- the opening of a feed on two chips: it is stopped with number 2 where one of them is out of range
 unfoldable pub openOf : Chip → Chip → Fed
 openOf left right =
-    unlessRefused (feedTable (feedOf left right (begun Open)))
-    (λ n at. fedWith (feedOf left right (begun (Stopped n at))) n at) (fedWith (feedOf left right (begun Open)) 0 0)
+    unlessRefused (feedTable (asFeed left right (begun Open)))
+    (λ n at. fedWith (asFeed left right (begun (Stopped n at))) n at) (fedWith (asFeed left right (begun Open)) 0 0)
 
 -- a stopped feed repeats its number and place, before any other test; an open one goes on
 abbrev pub unlessStopped : {A : Type 0} → Ending → (ℕ → ℕ → A) → A → A
@@ -127,58 +127,58 @@ unlessStopped (Stopped n at) repeat go = repeat n at
 
 -- what a part gives back, and what it leaves: the feed, the image and the answer buffer
 abbrev pub PartOutcome : Type 0
-PartOutcome = Result Ran (Lent Feed)
+PartOutcome = Result Tally (Lent Feed)
 
 -- what a part by value gives back, with the image and the answers afterwards
 abbrev pub partOutcome : Fed → List ℕ → List ℕ → PartOutcome
-partOutcome fed ram answers = result (fed .ran) (lent (fed .feed) ram answers)
+partOutcome fed ram answers = result (fed .tally) (lent (fed .feed) ram answers)
 
 -- what a part gives back and the feed that it leaves
 abbrev pub fedBy : PartOutcome → Fed
-fedBy o = fedOf (o .answer) (o .lent .state)
+fedBy o = asFed (o .answer) (o .lent .state)
 
--- the part not taken: the feed, the image and the answer buffer as they came
+-- a part that is not taken: the feed, the image and the answer buffer are as they came
 abbrev pub notTaken : Feed → List ℕ → List ℕ → ℕ → ℕ → PartOutcome
 notTaken f ram answers n at = partOutcome (fedWith f n at) ram answers
 
--- the counts gone on by those of a run, with the bytes to keep over
-abbrev pub countedOn : Progress → Ran → List ℕ → Ending → Progress
+-- a progress whose counts go on by the tally of a run, with the bytes to keep over
+abbrev pub countedOn : Progress → Tally → List ℕ → Ending → Progress
 countedOn t ran rest ending = keeping rest (t .records + ran .place) (t .compared + ran .compared) (t .differing + ran .differing) ending
 
--- how records run on a feed's bytes move it on: done, what is left past them is kept over; refused, nothing is, and the feed is stopped
-unfoldable pub movedOn : Progress → List ℕ → Ran → Progress
+-- how a run of the records in some bytes moves a progress on: done, what is left past them is kept over; refused, nothing is, and the feed is stopped
+unfoldable pub movedOn : Progress → List ℕ → Tally → Progress
 movedOn t bytes ran =
     if (eqb (ran .number) 0) (countedOn t ran (cutOff bytes) Open) (countedOn t ran [] (Stopped (ran .number) (t .records + ran .place)))
 
--- the records of a part, run: place and counts are counted from the opening
+-- what a part whose records ran gives back and leaves: place and counts are counted from the opening
 abbrev pub tookPart : Feed → List ℕ → ReplayOutcome → PartOutcome
 tookPart f bytes o =
     let t = movedOn (f .progress) bytes (o .answer) in
     let chips = o .lent .state in
-    partOutcome (fedWith (feedOf (chips .left) (chips .right) t) (o .answer .number) (t .records)) (o .lent .ram) (o .lent .answers)
+    partOutcome (fedWith (asFeed (chips .left) (chips .right) t) (o .answer .number) (t .records)) (o .lent .ram) (o .lent .answers)
 
 -- a part given to a feed that is open: numbers 1, 13 and 2, then the records
 unfoldable pub openPart : Feed → List ℕ → List ℕ → List ℕ → PartOutcome
 openPart f ram part answers =
     let bytes = joinedTo (f .progress) part in
     unlessRefused (partTable f (length ram) (length part) (length answers)) (notTaken f ram answers)
-    (tookPart f bytes (endedBytes (panelOf (f .left) (f .right) ram) bytes answers))
+    (tookPart f bytes (endedBytes (asPanel (f .left) (f .right) ram) bytes answers))
 
 -- a part given to a feed
 unfoldable pub partOf : Feed → List ℕ → List ℕ → List ℕ → PartOutcome
 partOf f ram part answers = unlessStopped (f .progress .ending) (notTaken f ram answers) (openPart f ram part answers)
 
--- stopped with a number at the records since the opening
+-- a feed stopped with a number, with the records since the opening as place
 abbrev pub stoppedWith : Feed → ℕ → Fed
 stoppedWith f n =
     let t = f .progress in
-    fedWith (feedOf (f .left) (f .right) (stoppedAt n (t .records) t)) n (t .records)
+    fedWith (asFeed (f .left) (f .right) (stoppedAt n (t .records) t)) n (t .records)
 
--- the closing of a feed that is open: number 2, which leaves it open; then 3 where bytes are kept over, else 0. The count of records has 32 bits, so
--- number 13 has no cause here
+-- the closing of a feed that is open: number 2, which leaves it open; then 3 where bytes are kept over, else 0. In the code the count of records has
+-- 32 bits, so number 13 has no cause here
 unfoldable pub openClose : Feed → Fed
 openClose f = unlessRefused (feedTable f) (fedWith f) (stoppedWith f (if (eqb (f .progress .kept) 0) 0 3))
 
--- the closing: the feed is then stopped
+-- the closing of a feed: a stopped one repeats, an open one is closed
 unfoldable pub closeOf : Feed → Fed
 closeOf f = unlessStopped (f .progress .ending) (fedWith f) (openClose f)

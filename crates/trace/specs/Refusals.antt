@@ -8,11 +8,11 @@ use Rattle.basics.specs.Choice.{if}
 use Rattle.basics.specs.Table.{First, ExactlyWhen}
 use Rattle.basics.specs.Verdict.{verdict}
 use Rattle.panel.specs.Chips.{panelIn}
-use Rattle.panel.specs.Panel.{Panel, panelOf}
+use Rattle.panel.specs.Panel.{Panel, asPanel}
 use Rattle.sed1520.specs.Chip.{outOfRange}
 use Rattle.sed1520.specs.declared.registers.Chip.{Chip}
-use Rattle.trace.specs.Feed.{begun, joinedTo, feedOf, feedTable, partTable, openOf, tookPart, partOf, closeOf}
-use Rattle.trace.specs.Replay.{inPlace, ranNothing, verdictOf, endedBytes, replayTable, replayOf, replayBytesTable, replayInPlace}
+use Rattle.trace.specs.Feed.{begun, joinedTo, asFeed, feedTable, partTable, openOf, tookPart, partOf, closeOf}
+use Rattle.trace.specs.Replay.{inPlace, nothingRun, tallyVerdict, endedBytes, replayTable, replayOf, replayBytesTable, replayInPlace}
 use Rattle.trace.specs.declared.progress.Ending.the-variants.{Open}
 use Rattle.trace.specs.declared.feed.Feed.{Feed}
 
@@ -21,28 +21,28 @@ abbrev pub ReplayNumbers : Type 0
 ReplayNumbers =
     (p : Panel) (trace answers : List ℕ)
     → ExactlyWhen (replayTable (outOfRange (p .left)) (outOfRange (p .right)) (length trace) (length (p .ram)) (length answers))
-    (verdictOf (endedBytes p trace answers .answer)) (verdictOf (replayOf p trace answers .answer))
+    (tallyVerdict (endedBytes p trace answers .answer)) (tallyVerdict (replayOf p trace answers .answer))
 
--- so does a replay over chip bytes, by the bytes as they lie
+-- a replay over chip bytes gives numbers 1 to 3 exactly when their lines say so of the bytes as they lie, else number and place of the records' run
 abbrev pub ReplayBytesNumbers : Type 0
 ReplayBytesNumbers =
     (chips ram trace answers : List ℕ)
     → ExactlyWhen (replayBytesTable chips (length trace) (length ram) (length answers))
-    (verdictOf (endedBytes (panelIn chips ram) trace answers .answer)) (verdictOf (replayInPlace chips ram trace answers .answer))
+    (tallyVerdict (endedBytes (panelIn chips ram) trace answers .answer)) (tallyVerdict (replayInPlace chips ram trace answers .answer))
 
--- and each of these leaves all that was lent as it came
+-- a replay over chip bytes that one of numbers 1 to 3 refuses leaves all that was lent as it came
 abbrev pub EveryRefusalBefore : Type 0
 EveryRefusalBefore =
     (chips ram trace answers : List ℕ) (n at : ℕ) → First (replayBytesTable chips (length trace) (length ram) (length answers)) n at
-    → replayInPlace chips ram trace answers ≡ inPlace (ranNothing n at) chips ram answers
+    → replayInPlace chips ram trace answers ≡ inPlace (nothingRun n at) chips ram answers
 
 -- the calls of a feed that is not stopped give 1, 13 and 2 exactly when their lines say so; else an opening gives 0, a part the number of its
 -- records' run, and a close 3 or 0, with the records since the opening as place
 pub record FeedNumbers : Type 0 where
-  pub opened : (left right : Chip) → ExactlyWhen (feedTable (feedOf left right (begun Open))) (verdict 0 0) (verdictOf (openOf left right .ran))
+  pub opened : (left right : Chip) → ExactlyWhen (feedTable (asFeed left right (begun Open))) (verdict 0 0) (tallyVerdict (openOf left right .tally))
   pub part : (f : Feed) (ram part answers : List ℕ) → f .progress .ending ≡ Open → let bytes = joinedTo (f .progress) part in
       ExactlyWhen (partTable f (length ram) (length part) (length answers))
-      (verdictOf (tookPart f bytes (endedBytes (panelOf (f .left) (f .right) ram) bytes answers) .answer))
-      (verdictOf (partOf f ram part answers .answer))
+      (tallyVerdict (tookPart f bytes (endedBytes (asPanel (f .left) (f .right) ram) bytes answers) .answer))
+      (tallyVerdict (partOf f ram part answers .answer))
   pub closed : (f : Feed) → f .progress .ending ≡ Open
-      → ExactlyWhen (feedTable f) (verdict (if (eqb (f .progress .kept) 0) 0 3) (f .progress .records)) (verdictOf (closeOf f .ran))
+      → ExactlyWhen (feedTable f) (verdict (if (eqb (f .progress .kept) 0) 0 3) (f .progress .records)) (tallyVerdict (closeOf f .tally))

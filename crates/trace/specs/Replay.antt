@@ -10,16 +10,16 @@ use Rattle.basics.specs.Table.{Cause, cause, unlessRefused}
 use Rattle.basics.specs.Verdict.{verdict, Result, result}
 use Rattle.basics.specs.declared.verdict.Verdict.{Verdict}
 use Rattle.sed1520.specs.Chip.{outOfRange}
-use Rattle.sed1520.specs.ChipRecord.{recordRight}
+use Rattle.sed1520.specs.ChipBytes.{chipLength, bytesPass}
 use Rattle.sed1520.specs.Cycle.{Reply}
 use Rattle.sed1520.specs.Records.{wholeRecords}
 use Rattle.sed1520.specs.declared.bus.Record.{Record}
 use Rattle.sed1520.specs.declared.registers.Chip.{Chip}
-use Rattle.panel.specs.Chips.{chipsBytes, chipsOf, panelIn}
-use Rattle.panel.specs.Panel.{Panel, panelOf}
+use Rattle.panel.specs.Chips.{chipsLength, chipsBytes, asChips, panelIn}
+use Rattle.panel.specs.Panel.{Panel, asPanel}
 use Rattle.panel.specs.Trace.{traceRun, traceSizesWrong, traceTable}
 use Rattle.panel.specs.declared.chips.Chips.{Chips}
-use Rattle.trace.specs.declared.Ran.{Ran}
+use Rattle.trace.specs.declared.Tally.{Tally}
 use Rattle.trace.specs.declared.Replayed.{Replayed}
 
 -- kinds 1 and 3 are compared with the byte that the recorder saw
@@ -31,7 +31,7 @@ unfoldable pub comparedIn : List Reply → ℕ
 comparedIn [] = 0
 comparedIn (a ∷ more) = if (isCompared (a .kind)) 1 0 + comparedIn more
 
--- how many of these differ from their record's byte
+-- how many of the compared reads differ from their record's byte
 unfoldable pub differingIn : List Reply → List Record → ℕ
 differingIn [] rs = 0
 differingIn (a ∷ more) [] = 0
@@ -41,17 +41,17 @@ differingIn (a ∷ more) (r ∷ rs) = if (isCompared (a .kind) && not (eqb (a .b
 abbrev pub replyBytes : Reply → List ℕ
 replyBytes a = a .kind ∷ a .byte ∷ []
 
--- replies one after the other
+-- replies one after the other as they stand in the answer buffer
 abbrev pub repliesBytes : List Reply → List ℕ
 repliesBytes replies = flatMap replyBytes replies
 
--- number, place and counts together
-abbrev pub ranOf : ℕ → ℕ → ℕ → ℕ → Ran
-ranOf n at compared differing = record { number = n; place = at; compared = compared; differing = differing }
+-- a tally of a number, its place and both counts
+abbrev pub tally : ℕ → ℕ → ℕ → ℕ → Tally
+tally n at compared differing = record { number = n; place = at; compared = compared; differing = differing }
 
 -- the number and the place of a tally
-abbrev pub verdictOf : Ran → Verdict
-verdictOf r = verdict (r .number) (r .place)
+abbrev pub tallyVerdict : Tally → Verdict
+tallyVerdict r = verdict (r .number) (r .place)
 
 -- what a replay or a part of a feed runs on: both chips or a feed, by value or as bytes, the image of both chips and the answer buffer
 pub record Lent (S : Type 0) : Type 0 where
@@ -59,34 +59,34 @@ pub record Lent (S : Type 0) : Type 0 where
   pub ram : List ℕ
   pub answers : List ℕ
 
--- the three together
+-- a state, an image and an answer buffer, as what is lent
 abbrev pub lent : {S : Type 0} → S → List ℕ → List ℕ → Lent S
 lent s ram answers = record { state = s; ram = ram; answers = answers }
 
 -- what a replay by value gives back and leaves
 abbrev pub ReplayOutcome : Type 0
-ReplayOutcome = Result Ran (Lent Chips)
+ReplayOutcome = Result Tally (Lent Chips)
 
--- number, place and counts, with the panel and the answer buffer afterwards
+-- what a replay gives back and leaves: number, place and counts, with the panel and the answer buffer afterwards
 abbrev pub endedAt : ℕ → ℕ → ℕ → ℕ → Panel → List ℕ → ReplayOutcome
 endedAt n at compared differing p answers =
-    result (ranOf n at compared differing) (lent (chipsOf (p .left) (p .right)) (p .ram) answers)
+    result (tally n at compared differing) (lent (asChips (p .left) (p .right)) (p .ram) answers)
 
 -- the panel that a replay leaves
 abbrev pub panelAfter : ReplayOutcome → Panel
-panelAfter o = panelOf (o .lent .state .left) (o .lent .state .right) (o .lent .ram)
+panelAfter o = asPanel (o .lent .state .left) (o .lent .state .right) (o .lent .ram)
 
--- refused before the first record: nothing is changed and nothing compared
+-- a replay refused before its first record: nothing is changed and nothing compared
 abbrev pub refusedAt : ℕ → ℕ → Panel → List ℕ → ReplayOutcome
 refusedAt n at p answers = endedAt n at 0 0 p answers
 
--- the records run: done or refused at a record, with the replies before it; the bytes past them stay
+-- how a replay ends by the run of its records: done, or refused at a record, with the replies before it; the answer bytes past them stay
 unfoldable pub ended : Run Panel Reply → List Record → List ℕ → ReplayOutcome
 ended r rs answers =
     endedAt (r .number) (length (r .answers)) (comparedIn (r .answers)) (differingIn (r .answers) rs) (r .state)
     (repliesBytes (r .answers) ++ drop (2 * length (r .answers)) answers)
 
--- how the whole records of bytes end on a panel
+-- how the run of the whole records in some bytes ends on a panel
 abbrev pub endedBytes : Panel → List ℕ → List ℕ → ReplayOutcome
 endedBytes p bytes answers = ended (traceRun p bytes) (wholeRecords bytes) answers
 
@@ -105,39 +105,39 @@ replayOf p trace answers =
     unlessRefused (replayTable (outOfRange (p .left)) (outOfRange (p .right)) (length trace) (length (p .ram)) (length answers))
     (λ n at. refusedAt n at p answers) (endedBytes p trace answers)
 
--- what the function gives back and leaves in what it was lent, as an outcome
+-- what the code's replay by value gives back and leaves in what it was lent, as an outcome
 abbrev pub replayOutcome : Replayed → List ℕ → List ℕ → ReplayOutcome
-replayOutcome r ram answers = endedAt (r .number) (r .place) (r .compared) (r .differing) (panelOf (r .left) (r .right) ram) answers
+replayOutcome r ram answers = endedAt (r .number) (r .place) (r .compared) (r .differing) (asPanel (r .left) (r .right) ram) answers
 
 -- what a call over chip bytes gives back, and what it leaves in the bytes, the image and the answer buffer
 abbrev pub InPlace : Type 0 → Type 0
 InPlace A = Result A (Lent (List ℕ))
 
--- an answer with what is left in the three
+-- an answer with what a call leaves in chip bytes, image and answer buffer
 abbrev pub inPlace : {A : Type 0} → A → List ℕ → List ℕ → List ℕ → InPlace A
 inPlace a chips ram answers = result a (lent chips ram answers)
 
--- no record run
-abbrev pub ranNothing : ℕ → ℕ → Ran
-ranNothing n at = ranOf n at 0 0
+-- the tally of a call that ran no record: a number, its place, and both counts 0
+abbrev pub nothingRun : ℕ → ℕ → Tally
+nothingRun n at = tally n at 0 0
 
 -- bytes of both chips that number 2 lets pass become those of a panel's chips; any others stay
 abbrev pub rewritten : List ℕ → Chip → Chip → List ℕ
-rewritten chips left right = if (recordRight (take 12 chips) && recordRight (drop 12 chips)) (chipsBytes left right) chips
+rewritten chips left right = if (bytesPass (take chipLength chips) && bytesPass (drop chipLength chips)) (chipsBytes left right) chips
 
--- an outcome on the panel, its chips written back as bytes
-abbrev pub overRecords : List ℕ → ReplayOutcome → InPlace Ran
-overRecords chips o =
+-- a replay's outcome on the panel that is read from chip bytes, with its chips written back as bytes
+abbrev pub overBytes : List ℕ → ReplayOutcome → InPlace Tally
+overBytes chips o =
     inPlace (o .answer) (rewritten chips (o .lent .state .left) (o .lent .state .right)) (o .lent .ram) (o .lent .answers)
 
 -- numbers 1 to 3 of a replay over chip bytes as they lie: number 1 also for chips that are not 24 bytes
 abbrev pub replayBytesTable : List ℕ → ℕ → ℕ → ℕ → List Cause
 replayBytesTable chips trace ram answers =
-    cause 1 0 (not (eqb (length chips) 24))
-    ∷ replayTable (not (recordRight (take 12 chips))) (not (recordRight (drop 12 chips))) trace ram answers
+    cause 1 0 (not (eqb (length chips) chipsLength))
+    ∷ replayTable (not (bytesPass (take chipLength chips))) (not (bytesPass (drop chipLength chips))) trace ram answers
 
 -- the replay over chip bytes: numbers 1 to 3, then the records on the panel read from them
-unfoldable pub replayInPlace : List ℕ → List ℕ → List ℕ → List ℕ → InPlace Ran
+unfoldable pub replayInPlace : List ℕ → List ℕ → List ℕ → List ℕ → InPlace Tally
 replayInPlace chips ram trace answers =
     unlessRefused (replayBytesTable chips (length trace) (length ram) (length answers))
-    (λ n at. inPlace (ranNothing n at) chips ram answers) (overRecords chips (endedBytes (panelIn chips ram) trace answers))
+    (λ n at. inPlace (nothingRun n at) chips ram answers) (overBytes chips (endedBytes (panelIn chips ram) trace answers))

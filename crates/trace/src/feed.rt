@@ -4,26 +4,27 @@ ghost use Prim.Native.Nat.{_+_, _*_, _/_, _≤_};
 ghost use mathlib.Core.Path.{_≡_};
 ghost use mathlib.Core.List.{_++_};
 ghost use lib.ListN.{length};
+ghost use Rattle.panel.specs.Trace.{traceLimit};
 ghost use Rattle.basics.specs.Choice.{if};
-ghost use Rattle.panel.specs.Chips.{panelIn, RecordsFit};
+ghost use Rattle.panel.specs.Chips.{chipsLength, panelIn, BothPass};
 ghost use Rattle.basics.specs.Verdict.{verdict};
-ghost use Rattle.trace.specs.Replay.{inPlace, endedBytes, overRecords};
-ghost use Rattle.trace.specs.Feed.{joinedTo, completedBy, tooMany, progressWrong, feedOf, stateVerdict, partVerdict, fedWith};
+ghost use Rattle.trace.specs.Replay.{inPlace, endedBytes, overBytes};
+ghost use Rattle.trace.specs.Feed.{joinedTo, completedBy, tooMany, progressWrong, asFeed, stateVerdict, partVerdict, fedWith};
 ghost use Rattle.trace.specs.Feed.{openOf, partOutcome, openPart, partOf, stoppedWith, openClose, closeOf};
-ghost use Rattle.trace.specs.FeedInPlace.{fedInPlace, feedIn, asRecords, partInPlace};
+ghost use Rattle.trace.specs.FeedInPlace.{fedInPlace, feedIn, partOverBytes, partInPlace};
 use crate::ANSWER_BYTES;
-use crate::Ran;
+use crate::Tally;
+use crate::nothing_run;
 use crate::progress::Ending;
 use crate::progress::Progress;
-use crate::ran_nothing;
 use crate::run;
 use crate::sizes_wrong;
+use basics::verdict::Verdict;
 use panel::chips::CHIPS_BYTES;
 use panel::chips::chips_bytes;
 use panel::chips::chips_in;
 use sed1520::bus::RECORD_BYTES;
 use sed1520::registers::Chip;
-use basics::verdict::Verdict;
 
 // The most records that a feed may take.
 pub const MAX_RECORDS: u64 = 4294967295;
@@ -37,13 +38,13 @@ pub struct Feed {
 
 // What each call gives back: number, place and the counts so far; and the next feed.
 pub struct Fed {
-    pub ran: Ran,
+    pub tally: Tally,
     pub feed: Feed,
 }
 
-// The same of a part given over chip records, which are rewritten.
+// What a part given over chip bytes, which are rewritten, gives back: number, place and counts; and the next progress.
 pub struct FedInPlace {
-    pub ran: Ran,
+    pub tally: Tally,
     pub progress: Progress,
 }
 
@@ -56,7 +57,7 @@ fn completed(kept: u8, part: usize) -> usize
 
 // Number 13: more records in all than a feed may take.
 fn too_many(records: u32, more: usize) -> bool
-    requires { ⌜ more ≤ 65536 ⌝ }
+    requires { ⌜ more ≤ traceLimit ⌝ }
     ensures { λ r. ⌜ r ≡ tooMany records more ⌝ }
 {
     MAX_RECORDS < (records as u64) + (more as u64)
@@ -74,7 +75,7 @@ fn progress_verdict(progress: Progress) -> Verdict
 
 // Number 2, or 0: the left chip, the right one, then place 3.
 fn state_verdict(left: Chip, right: Chip, progress: Progress) -> Verdict
-    ensures { λ r. ⌜ r ≡ stateVerdict (feedOf left right progress) ⌝ }
+    ensures { λ r. ⌜ r ≡ stateVerdict (asFeed left right progress) ⌝ }
 {
     let own = progress_verdict(progress);
     Verdict::unless(!left.in_range(), !right.in_range(), 2, own)
@@ -104,13 +105,13 @@ fn run_part(
     ram: &mut [u8],
     part: &[u8],
     answers: &mut [u8],
-) -> Ran
-    requires { ⌜ RecordsFit (now chips) (now ram) ⌝ }
+) -> Tally
+    requires { ⌜ BothPass (now chips) (now ram) ⌝ }
     requires { ⌜ progress .kept ≤ 3 ⌝ }
-    requires { ⌜ length (now part) ≤ 65536 ⌝ }
+    requires { ⌜ length (now part) ≤ traceLimit ⌝ }
     requires { ⌜ 2 * completedBy (progress .kept) (length (now part)) ≤ length (now answers) ⌝ }
     ensures { λ r. ⌜ inPlace r (now (chips .exit)) (now (ram .exit)) (now (answers .exit))
-        ≡ overRecords (now (chips .entry))
+        ≡ overBytes (now (chips .entry))
         (endedBytes (panelIn (now (chips .entry)) (now (ram .entry))) (joinedTo progress (now (part .entry))) (now (answers .entry))) ⌝ }
 {
     let kept = progress.kept as usize;
@@ -118,7 +119,7 @@ fn run_part(
         return run(chips, ram, part, answers);
     }
     if kept + part.len() < RECORD_BYTES {
-        return ran_nothing(0, 0);
+        return nothing_run(0, 0);
     }
     let first = [
         progress.byte_at(part, 0),
@@ -130,13 +131,19 @@ fn run_part(
 }
 
 // A record and a trace behind it, as one trace.
-fn run_both(chips: &mut [u8], ram: &mut [u8], first: &[u8], rest: &[u8], answers: &mut [u8]) -> Ran
-    requires { ⌜ RecordsFit (now chips) (now ram) ⌝ }
+fn run_both(
+    chips: &mut [u8],
+    ram: &mut [u8],
+    first: &[u8],
+    rest: &[u8],
+    answers: &mut [u8],
+) -> Tally
+    requires { ⌜ BothPass (now chips) (now ram) ⌝ }
     requires { ⌜ length (now first) ≡ 4 ⌝ }
-    requires { ⌜ length (now rest) ≤ 65536 ⌝ }
+    requires { ⌜ length (now rest) ≤ traceLimit ⌝ }
     requires { ⌜ 2 + 2 * (length (now rest) / 4) ≤ length (now answers) ⌝ }
     ensures { λ r. ⌜ inPlace r (now (chips .exit)) (now (ram .exit)) (now (answers .exit))
-        ≡ overRecords (now (chips .entry))
+        ≡ overBytes (now (chips .entry))
         (endedBytes (panelIn (now (chips .entry)) (now (ram .entry))) (now (first .entry) ++ now (rest .entry)) (now (answers .entry))) ⌝ }
 {
     let begun = run(chips, ram, first, answers);
@@ -144,7 +151,7 @@ fn run_both(chips: &mut [u8], ram: &mut [u8], first: &[u8], rest: &[u8], answers
         return begun;
     }
     let next = run(chips, ram, rest, &mut answers[ANSWER_BYTES..]);
-    Ran {
+    Tally {
         number: next.number,
         place: begun.place + next.place,
         compared: begun.compared + next.compared,
@@ -152,7 +159,7 @@ fn run_both(chips: &mut [u8], ram: &mut [u8], first: &[u8], rest: &[u8], answers
     }
 }
 
-// A part given to a feed whose chips lie as records, which are rewritten, and the image of both chips: two answer bytes for
+// A part given to a feed whose chips lie as bytes, which are rewritten, and the image of both chips: two answer bytes for
 // each record that the part completes.
 pub fn part_in_place(
     chips: &mut [u8],
@@ -166,10 +173,10 @@ pub fn part_in_place(
 {
     let ending = progress.ending;
     match ending {
-        Ending::Stopped(number, place) => told_in_place(progress, number, place as u64),
+        Ending::Stopped(number, place) => reported_in_place(progress, number, place as u64),
         Ending::Open => {
             if chips.len() != CHIPS_BYTES {
-                return told_in_place(progress, 1, 0);
+                return reported_in_place(progress, 1, 0);
             }
             open_part(chips, progress, ram, part, answers)
         }
@@ -177,11 +184,11 @@ pub fn part_in_place(
 }
 
 // A number and its place with the counts so far, and the progress that holds them.
-fn told_in_place(progress: Progress, number: u8, place: u64) -> FedInPlace
+fn reported_in_place(progress: Progress, number: u8, place: u64) -> FedInPlace
     ensures { λ r. ⌜ r ≡ fedInPlace progress number place ⌝ }
 {
-    let ran = progress.so_far(number, place);
-    FedInPlace { ran, progress }
+    let tally = progress.so_far(number, place);
+    FedInPlace { tally, progress }
 }
 
 // A part given to a feed that is open: numbers 1, 13 and 2, then the records.
@@ -192,9 +199,9 @@ fn open_part(
     part: &[u8],
     answers: &mut [u8],
 ) -> FedInPlace
-    requires { ⌜ length (now chips) ≡ 24 ⌝ }
+    requires { ⌜ length (now chips) ≡ chipsLength ⌝ }
     ensures { λ r. ⌜ inPlace r (now (chips .exit)) (now (ram .exit)) (now (answers .exit))
-        ≡ asRecords (now (chips .entry))
+        ≡ partOverBytes (now (chips .entry))
         (openPart (feedIn (now (chips .entry)) progress) (now (ram .entry)) (now (part .entry)) (now (answers .entry))) ⌝ }
 {
     let both = chips_in(chips);
@@ -207,11 +214,11 @@ fn open_part(
     };
     let verdict = part_verdict(feed, ram.len(), part.len(), answers.len());
     if verdict.number != 0 {
-        return told_in_place(progress, verdict.number, verdict.place);
+        return reported_in_place(progress, verdict.number, verdict.place);
     }
-    let ran = run_part(chips, progress, ram, part, answers);
-    let next = progress.moved_on(part, ran);
-    told_in_place(next, ran.number, next.records as u64)
+    let tally = run_part(chips, progress, ram, part, answers);
+    let next = progress.moved_on(part, tally);
+    reported_in_place(next, tally.number, next.records as u64)
 }
 
 impl Feed {
@@ -227,14 +234,14 @@ impl Feed {
                 right,
                 progress: Progress::begun(Ending::Stopped(verdict.number, verdict.place as u32)),
             };
-            return told(feed, verdict.number, verdict.place);
+            return reported(feed, verdict.number, verdict.place);
         }
         let feed = Feed {
             left,
             right,
             progress,
         };
-        told(feed, 0, 0)
+        reported(feed, 0, 0)
     }
 
     // The next part of the trace, over the image of both chips: two answer bytes for each record that it completes.
@@ -251,13 +258,13 @@ impl Feed {
         let next_left = both.left;
         let next_right = both.right;
         let next = went.progress;
-        let ran = went.ran;
+        let tally = went.tally;
         let feed = Feed {
             left: next_left,
             right: next_right,
             progress: next,
         };
-        Fed { ran, feed }
+        Fed { tally, feed }
     }
 
     // The end of the trace: number 3 where bytes are kept over. The feed is then stopped.
@@ -267,7 +274,7 @@ impl Feed {
         let progress = self.progress;
         let ending = progress.ending;
         match ending {
-            Ending::Stopped(number, place) => told(self, number, place as u64),
+            Ending::Stopped(number, place) => reported(self, number, place as u64),
             Ending::Open => open_close(self),
         }
     }
@@ -282,7 +289,7 @@ fn open_close(feed: Feed) -> Fed
     let progress = feed.progress;
     let verdict = state_verdict(left, right, progress);
     if verdict.number != 0 {
-        return told(feed, verdict.number, verdict.place);
+        return reported(feed, verdict.number, verdict.place);
     }
     if progress.kept == 0 {
         return stopped(feed, 0);
@@ -304,14 +311,14 @@ fn stopped(feed: Feed, number: u8) -> Fed
         right,
         progress: next,
     };
-    told(after, number, records as u64)
+    reported(after, number, records as u64)
 }
 
 // A feed with a number, its place and the feed's counts so far.
-fn told(feed: Feed, number: u8, place: u64) -> Fed
+fn reported(feed: Feed, number: u8, place: u64) -> Fed
     ensures { λ r. ⌜ r ≡ fedWith feed number place ⌝ }
 {
     let progress = feed.progress;
-    let ran = progress.so_far(number, place);
-    Fed { ran, feed }
+    let tally = progress.so_far(number, place);
+    Fed { tally, feed }
 }

@@ -1,26 +1,27 @@
-// A feed that its owner holds by a reference: each function takes it out, calls the function by value and puts the next feed back.
+// A feed that its owner holds by a reference: each function takes it out, calls the function by value and puts the next
+// feed back.
 ghost use mathlib.Core.Path.{_≡_};
-ghost use Rattle.trace.specs.Feed.{fedOf, partOutcome, partOf, closeOf};
-use crate::Ran;
+ghost use Rattle.trace.specs.Feed.{asFed, partOutcome, partOf, closeOf};
+use crate::Tally;
 use crate::feed::Feed;
 
 // The next part given to a feed that its owner holds: the by-value call, put back.
-pub fn give_part(feed: &mut Feed, ram: &mut [u8], part: &[u8], answers: &mut [u8]) -> Ran
-    ensures { λ r. ⌜ partOutcome (fedOf r (now (feed .exit))) (now (ram .exit)) (now (answers .exit))
+pub fn give_part(feed: &mut Feed, ram: &mut [u8], part: &[u8], answers: &mut [u8]) -> Tally
+    ensures { λ r. ⌜ partOutcome (asFed r (now (feed .exit))) (now (ram .exit)) (now (answers .exit))
         ≡ partOf (now (feed .entry)) (now (ram .entry)) (now (part .entry)) (now (answers .entry)) ⌝ }
 {
     let held = *feed;
     let fed = held.part(ram, part, answers);
     *feed = fed.feed;
-    fed.ran
+    fed.tally
 }
 
 // The closing of a feed that its owner holds.
-pub fn close_feed(feed: &mut Feed) -> Ran
-    ensures { λ r. ⌜ fedOf r (now (feed .exit)) ≡ closeOf (now (feed .entry)) ⌝ }
+pub fn close_feed(feed: &mut Feed) -> Tally
+    ensures { λ r. ⌜ asFed r (now (feed .exit)) ≡ closeOf (now (feed .entry)) ⌝ }
 {
     let held = *feed;
     let closed = held.close();
     *feed = closed.feed;
-    closed.ran
+    closed.tally
 }

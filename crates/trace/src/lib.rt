@@ -9,18 +9,19 @@ ghost use mathlib.Core.Path.{_≡_};
 ghost use mathlib.Core.Bool.{_&&_, not};
 ghost use lib.Dec.{eqb};
 ghost use lib.ListN.{length};
+ghost use Rattle.panel.specs.Trace.{traceLimit};
 ghost use Rattle.basics.specs.Choice.{if};
-ghost use Rattle.panel.specs.Chips.{panelIn, RecordsFit};
-ghost use Rattle.panel.specs.Panel.{panelOf};
-ghost use Rattle.trace.specs.Replay.{isCompared, ranNothing, replayOutcome, endedBytes, sizesWrong, replayOf};
-ghost use Rattle.trace.specs.Replay.{inPlace, overRecords, replayInPlace};
-use sed1520::bus::RECORD_BYTES;
-use sed1520::bus::Record;
+ghost use Rattle.panel.specs.Chips.{panelIn, BothPass};
+ghost use Rattle.panel.specs.Panel.{asPanel};
+ghost use Rattle.trace.specs.Replay.{isCompared, nothingRun, replayOutcome, endedBytes, sizesWrong, replayOf};
+ghost use Rattle.trace.specs.Replay.{inPlace, overBytes, replayInPlace};
 use panel::chips::CHIPS_BYTES;
 use panel::chips::chips_bytes;
 use panel::chips::chips_in;
 use panel::step::step_of_tested_chips;
 use panel::trace::trace_verdict;
+use sed1520::bus::RECORD_BYTES;
+use sed1520::bus::Record;
 use sed1520::registers::Chip;
 
 // The bytes of a record's answer.
@@ -37,8 +38,8 @@ pub struct Replayed {
     pub right: Chip,
 }
 
-// What a replay over chip records, and each call of a feed, gives back beside what it was lent.
-pub struct Ran {
+// What a replay over chip bytes, and each call of a feed, gives back beside what it was lent.
+pub struct Tally {
     pub number: u8,
     pub place: u64,
     pub compared: u64,
@@ -63,13 +64,13 @@ fn differs(kind: u8, byte: u8, recorded: u8) -> u64
     if byte == recorded { 0 } else { compares(kind) }
 }
 
-// The records one after the other on two chip records that number 2 lets pass, up to the first that is refused.
-pub(crate) fn run(chips: &mut [u8], ram: &mut [u8], trace: &[u8], answers: &mut [u8]) -> Ran
-    requires { ⌜ RecordsFit (now chips) (now ram) ⌝ }
+// The records one after the other on chip bytes that number 2 lets pass, up to the first that is refused.
+pub(crate) fn run(chips: &mut [u8], ram: &mut [u8], trace: &[u8], answers: &mut [u8]) -> Tally
+    requires { ⌜ BothPass (now chips) (now ram) ⌝ }
     requires { ⌜ 2 * (length (now trace) / 4) ≤ length (now answers) ⌝ }
-    requires { ⌜ length (now trace) ≤ 65536 ⌝ }
+    requires { ⌜ length (now trace) ≤ traceLimit ⌝ }
     ensures { λ r. ⌜ inPlace r (now (chips .exit)) (now (ram .exit)) (now (answers .exit))
-        ≡ overRecords (now (chips .entry))
+        ≡ overBytes (now (chips .entry))
         (endedBytes (panelIn (now (chips .entry)) (now (ram .entry))) (now (trace .entry)) (now (answers .entry))) ⌝ }
 {
     let mut compared: u64 = 0;
@@ -86,7 +87,7 @@ pub(crate) fn run(chips: &mut [u8], ram: &mut [u8], trace: &[u8], answers: &mut 
         };
         let answer = step_of_tested_chips(bus, chips, ram);
         if answer.number != 0 {
-            return Ran {
+            return Tally {
                 number: answer.number,
                 place: at as u64,
                 compared,
@@ -99,7 +100,7 @@ pub(crate) fn run(chips: &mut [u8], ram: &mut [u8], trace: &[u8], answers: &mut 
         differing = differing + differs(answer.kind, answer.byte, bus.byte);
         at = at + 1;
     }
-    Ran {
+    Tally {
         number: 0,
         place: at as u64,
         compared,
@@ -108,10 +109,10 @@ pub(crate) fn run(chips: &mut [u8], ram: &mut [u8], trace: &[u8], answers: &mut 
 }
 
 // No record run: nothing is changed and nothing compared.
-pub(crate) fn ran_nothing(number: u8, place: u64) -> Ran
-    ensures { λ r. ⌜ r ≡ ranNothing number place ⌝ }
+pub(crate) fn nothing_run(number: u8, place: u64) -> Tally
+    ensures { λ r. ⌜ r ≡ nothingRun number place ⌝ }
 {
-    Ran {
+    Tally {
         number,
         place,
         compared: 0,
@@ -119,14 +120,14 @@ pub(crate) fn ran_nothing(number: u8, place: u64) -> Ran
     }
 }
 
-// The replay of a trace on two chip records, which are rewritten, and the image of both chips, two answer bytes for each record;
-// refuses by number what does not fit.
-pub fn replay_in_place(chips: &mut [u8], ram: &mut [u8], trace: &[u8], answers: &mut [u8]) -> Ran
+// The replay of a trace on the chips' bytes, which are rewritten, and the image of both chips, two answer bytes for each
+// record; refuses by number what does not fit.
+pub fn replay_in_place(chips: &mut [u8], ram: &mut [u8], trace: &[u8], answers: &mut [u8]) -> Tally
     ensures { λ r. ⌜ inPlace r (now (chips .exit)) (now (ram .exit)) (now (answers .exit))
         ≡ replayInPlace (now (chips .entry)) (now (ram .entry)) (now (trace .entry)) (now (answers .entry)) ⌝ }
 {
     if chips.len() != CHIPS_BYTES {
-        return ran_nothing(1, 0);
+        return nothing_run(1, 0);
     }
     let wrong = sizes_wrong(
         trace.len(),
@@ -139,26 +140,26 @@ pub fn replay_in_place(chips: &mut [u8], ram: &mut [u8], trace: &[u8], answers: 
     let right = both.right;
     let verdict = trace_verdict(wrong, left, right, trace.len());
     if verdict.number != 0 {
-        return ran_nothing(verdict.number, verdict.place);
+        return nothing_run(verdict.number, verdict.place);
     }
     run(chips, ram, trace, answers)
 }
 
-// The replay of a trace on two chips by value and the image of both, as over their records.
+// The replay of a trace on two chips by value and the image of both, as over their bytes.
 pub fn replay(left: Chip, right: Chip, ram: &mut [u8], trace: &[u8], answers: &mut [u8]) -> Replayed
     ensures { λ r. ⌜ replayOutcome r (now (ram .exit)) (now (answers .exit))
-        ≡ replayOf (panelOf left right (now (ram .entry))) (now (trace .entry)) (now (answers .entry)) ⌝ }
+        ≡ replayOf (asPanel left right (now (ram .entry))) (now (trace .entry)) (now (answers .entry)) ⌝ }
 {
     let mut chips = chips_bytes(left, right);
-    let ran = replay_in_place(&mut chips, ram, trace, answers);
+    let tally = replay_in_place(&mut chips, ram, trace, answers);
     let both = chips_in(&chips);
     let next_left = both.left;
     let next_right = both.right;
     Replayed {
-        number: ran.number,
-        place: ran.place,
-        compared: ran.compared,
-        differing: ran.differing,
+        number: tally.number,
+        place: tally.place,
+        compared: tally.compared,
+        differing: tally.differing,
         left: next_left,
         right: next_right,
     }

@@ -2,8 +2,9 @@
 ghost use Prim.Native.Nat.{_+_, _≤_};
 ghost use mathlib.Core.Path.{_≡_};
 ghost use lib.ListN.{length, getD};
+ghost use Rattle.panel.specs.Trace.{traceLimit};
 ghost use Rattle.trace.specs.Feed.{begun, stoppedAt, soFar, progressWrong, joinedTo, movedOn};
-use crate::Ran;
+use crate::Tally;
 use sed1520::bus::RECORD_BYTES;
 
 // Whether a feed takes parts, or is stopped with the number and the place that it repeats.
@@ -58,11 +59,11 @@ impl Progress {
         }
     }
 
-    // A number and its place with the counts so far.
-    pub(crate) fn so_far(self, number: u8, place: u64) -> Ran
+    // The tally of a number and its place, with the counts so far.
+    pub(crate) fn so_far(self, number: u8, place: u64) -> Tally
         ensures { λ r. ⌜ r ≡ soFar self number place ⌝ }
     {
-        Ran {
+        Tally {
             number,
             place,
             compared: self.compared as u64,
@@ -107,18 +108,18 @@ impl Progress {
 
     // After a part's records: the counts go on; done, what is past the last whole record is kept over; refused, the feed is
     // stopped.
-    pub(crate) fn moved_on(self, part: &[u8], ran: Ran) -> Progress
+    pub(crate) fn moved_on(self, part: &[u8], tally: Tally) -> Progress
         requires { ⌜ self .kept ≤ 3 ⌝ }
-        requires { ⌜ length (now part) ≤ 65536 ⌝ }
-        requires { ⌜ self .records + ran .place ≤ 4294967295 ⌝ }
-        requires { ⌜ self .compared + ran .compared ≤ 4294967295 ⌝ }
-        requires { ⌜ self .differing + ran .differing ≤ 4294967295 ⌝ }
-        ensures { λ r. ⌜ r ≡ movedOn self (joinedTo self (now (part .entry))) ran ⌝ }
+        requires { ⌜ length (now part) ≤ traceLimit ⌝ }
+        requires { ⌜ self .records + tally .place ≤ 4294967295 ⌝ }
+        requires { ⌜ self .compared + tally .compared ≤ 4294967295 ⌝ }
+        requires { ⌜ self .differing + tally .differing ≤ 4294967295 ⌝ }
+        ensures { λ r. ⌜ r ≡ movedOn self (joinedTo self (now (part .entry))) tally ⌝ }
     {
-        let records = self.records + (ran.place as u32);
-        let compared = self.compared + (ran.compared as u32);
-        let differing = self.differing + (ran.differing as u32);
-        if ran.number != 0 {
+        let records = self.records + (tally.place as u32);
+        let compared = self.compared + (tally.compared as u32);
+        let differing = self.differing + (tally.differing as u32);
+        if tally.number != 0 {
             return Progress {
                 kept: 0,
                 first: 0,
@@ -127,7 +128,7 @@ impl Progress {
                 records,
                 compared,
                 differing,
-                ending: Ending::Stopped(ran.number, records),
+                ending: Ending::Stopped(tally.number, records),
             };
         }
         let bytes = (self.kept as usize) + part.len();

@@ -3,14 +3,14 @@
 ghost use Prim.Native.Nat.{_≤_};
 ghost use mathlib.Core.Path.{_≡_};
 ghost use lib.ListN.{length};
-ghost use Rattle.vectors.specs.Rows.{rowAgrees, agreesOf};
+ghost use Rattle.vectors.specs.Cases.{caseAgrees, agreesOf};
 use sed1520::actions::Answer;
 use sed1520::bus::Record;
 use sed1520::bus::cycle;
 use sed1520::registers::Chip;
 
-// A row: a record's 4 bytes, then the number, the kind and the byte that its cycle must answer.
-const ROW: usize = 7;
+// A case: a record's 4 bytes, then the number, the kind and the byte that its cycle must answer.
+const CASE: usize = 7;
 
 // 4.11, 4.12: a blinking cursor. Two bytes at page 1, column 10; read-modify-write on, the empty read, the read,
 // the byte inverted and written back, the next byte read after an empty read; the end returns to column 10, where the
@@ -33,9 +33,8 @@ const CURSOR_BLINK: [u8; 105] = *b"\
     \x05\x00\x00\x00\x00\x01\x81";
 
 // Request C-12: a cursor's cell (7F at page 1, column 21) read back in read-modify-write, after a page set from the letter
-// above it (3E), and after the letter beside it (41) is written back inverted. Each time the first read still answers the
-// neighbour's letter, but as kind 2, an empty read; the second answers the cell's byte, kind 1. A write at column 80 stores
-// nothing, and the read after it is empty too.
+// above it (3E) and after the letter beside it (41) is written back inverted. Each time the first read is empty: it answers
+// that letter, as kind 2; the second answers the cell's byte, kind 1. A write at column 80 leaves the next read empty too.
 const CURSOR_READ_BACK: [u8; 210] = *b"\
     \x02\x00\xB8\x00\x00\x00\x00\
     \x02\x00\x15\x00\x00\x00\x00\
@@ -152,7 +151,7 @@ const RESET: [u8; 112] = *b"\
     \x05\x00\x00\x00\x00\x02\x00\
     \x05\x00\x00\x00\x00\x01\x55";
 
-// 4.1, 4.5, 4.8: status by display and direction; the direction turns neither the storing nor the counting.
+// 4.1, 4.5, 4.8: status by display and direction; the direction changes neither the storing nor the counting.
 const STATUS_AND_DIRECTION: [u8; 105] = *b"\
     \x04\x00\x00\x00\x00\x03\x60\
     \x02\x00\xAF\x00\x00\x00\x00\
@@ -171,8 +170,8 @@ const STATUS_AND_DIRECTION: [u8; 105] = *b"\
     \x04\x00\x00\x00\x00\x03\x60";
 
 // Refused records answer kind 0, byte 0 and change nothing: a column set in read-modify-write, bytes that are no command,
-// strobes that are equal, a chip that is not there, a spare line, a fourth byte that is not 0. At the end the latch is fresh,
-// and a page that is not there and refused data writes leave it so.
+// strobes that are equal, a chip that is not there, a spare line, a fourth byte that is not 0. At the end the latch is
+// fresh, and a page that is not there and refused data writes leave it so.
 const REFUSALS: [u8; 140] = *b"\
     \x02\x00\x07\x00\x00\x00\x00\
     \x02\x00\xE0\x00\x00\x00\x00\
@@ -207,38 +206,38 @@ const LISTING: [u8; 63] = *b"\
     \x05\x00\xA5\x00\x00\x02\xA5\
     \x04\x00\xA0\x00\x00\x03\x60";
 
-// Whether a row says what its record's cycle answered.
-fn row_agrees(row: &[u8], answer: Answer) -> bool
-    requires { ⌜ 7 ≤ length (now row) ⌝ }
-    ensures { λ r. ⌜ r ≡ rowAgrees (now (row .entry)) answer ⌝ }
+// Whether a case says what its record's cycle answered.
+fn case_agrees(case: &[u8], answer: Answer) -> bool
+    requires { ⌜ 7 ≤ length (now case) ⌝ }
+    ensures { λ r. ⌜ r ≡ caseAgrees (now (case .entry)) answer ⌝ }
 {
-    if row[4] != answer.number {
+    if case[4] != answer.number {
         return false;
     }
-    if row[5] != answer.kind {
+    if case[5] != answer.kind {
         return false;
     }
-    row[6] == answer.byte
+    case[6] == answer.byte
 }
 
-// Whether each row's record is answered as the row says, from a fresh chip over RAM all 0.
-fn agrees(rows: &[u8]) -> bool
-    ensures { λ r. ⌜ r ≡ agreesOf (now (rows .entry)) ⌝ }
+// Whether each case's record is answered as the case says, from a fresh chip over RAM all 0.
+fn agrees(cases: &[u8]) -> bool
+    ensures { λ r. ⌜ r ≡ agreesOf (now (cases .entry)) ⌝ }
 {
-    let mut ram = [0u8; 320];
+    let mut ram = [0u8; Chip::RAM_WIDTH];
     let mut chip = Chip::fresh();
     let mut at = 0;
-    let count = rows.len() / ROW;
+    let count = cases.len() / CASE;
     while at < count {
-        let row = &rows[ROW * at..];
+        let case = &cases[CASE * at..];
         let bus = Record {
-            lines: row[0],
-            chip: row[1],
-            byte: row[2],
-            spare: row[3],
+            lines: case[0],
+            chip: case[1],
+            byte: case[2],
+            spare: case[3],
         };
         let answer = cycle(bus, chip, &mut ram);
-        if !row_agrees(row, answer) {
+        if !case_agrees(case, answer) {
             return false;
         }
         chip = answer.chip;

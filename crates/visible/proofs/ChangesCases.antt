@@ -1,4 +1,4 @@
--- The call out of the verdict on the trace and two walks over the records; its numbers; that a refusal keeps the buffer; and how large a place can be.
+-- The call out of the verdict on the trace and two walks over the records; its numbers; that a refusal keeps the buffer; how large a place can be.
 use Prim.Native.Nat.{ℕ, _*_, _/_, _<_, _≤_}
 use native.Mathlib.Omega.{arith}
 use mathlib.Core.Path.{_≡_, refl, sym, ap, _∙_}
@@ -20,10 +20,10 @@ use Rattle.basics.proofs.Tests.{neither, no-other}
 use Rattle.sed1520.specs.Chip.{outOfRange}
 use Rattle.sed1520.specs.Records.{front, wholeRecords}
 use Rattle.sed1520.proofs.Records.{records-length}
-use Rattle.panel.specs.Panel.{Panel, panelTurn, Whole}
+use Rattle.panel.specs.Panel.{Panel, panelStep, Whole}
 use Rattle.panel.specs.Trace.{traceRun, traceSizesWrong, traceTable}
-use Rattle.frame.proofs.TableCalls.{call-exactly, call-place, call-keeps, first-front, first-behind, none-behind}
-use Rattle.visible.specs.Changes.{changedAt, Entry, entryAt, entriesBefore, entriesOf, entriesBytes, changesTable, changesOf}
+use Rattle.basics.proofs.Table.{call-exactly, call-place, call-keeps, first-front, first-behind, none-behind}
+use Rattle.visible.specs.Changes.{changedAt, Entry, entryAt, entriesBefore, allEntries, entriesBytes, changesTable, changesOf}
 use Rattle.visible.specs.Promises.{ChangesNumbers, EveryRefusalKeeps}
 use Rattle.visible.specs.Sight.{putEntries, entriesRan, walkedOf}
 use Rattle.visible.specs.declared.walk.Walked.{Walked}
@@ -47,7 +47,7 @@ all-put entries buffer h = rw (take-all (length buffer / 8) entries h)
 
 module _ (p : Panel) (trace : List ℕ) where
   abbrev entries : List Entry
-  entries = entriesOf p (wholeRecords trace)
+  entries = allEntries p (wholeRecords trace)
 
   -- the lines of numbers 1 to 3, and their verdict out of the test of sizes
   abbrev pub early : List Cause
@@ -103,7 +103,7 @@ module _ (p : Panel) (trace buffer : List ℕ) where
         -- all records ran, so their entries are all
         all-ran : entriesRan p trace ≡ entries p trace
         all-ran =
-            ap (entriesBefore p (wholeRecords trace)) (run-ends panelTurn (front []) (wholeRecords trace) p .done (rw is-walk at done))
+            ap (entriesBefore p (wholeRecords trace)) (run-ends panelStep (front []) (wholeRecords trace) p .done (rw is-walk at done))
 
         how-many : w .entries ≡ length (entries p trace)
         how-many = rw is-walk (ap (λ (l : List Entry). length l) all-ran)
@@ -140,7 +140,7 @@ pub places-small : (p : Panel) (trace buffer : List ℕ) → changesOf p trace b
 unfolding changesOf
 places-small p trace buffer =
     let records = records-length (length trace / 4) trace in
-    let ran = answers-bound panelTurn (wholeRecords trace) p in
+    let ran = answers-bound panelStep (wholeRecords trace) p in
     let few = chosen-few (changedAt p (wholeRecords trace)) (entryAt p (wholeRecords trace)) 0 (length (wholeRecords trace)) in
     let size = sizes-right (length trace) (length (p .ram)) in
     call-place (table p trace buffer) buffer (given p trace buffer) (λ at. at < 65536)

@@ -45,10 +45,10 @@ module _ (c : Chip) (ram : List ℕ) (d : Chip) (other : List ℕ) where
 module _ (p q : Panel) where
   pub no-pixels-same : pixelsChanged p q 0 ≡ 0 → pixelsChanged p q 1 ≡ 0 → frameOf p ≡ frameOf q
   no-pixels-same left right =
-      same-places (frameOf p) (frameOf q) (half-laws .whole p) (half-laws .whole q) (λ k n r side driven row.
-      half-laws .place p k n r driven row
-      ∙ half-laws .by-pixels _ _ _ _ n (λ line h. pixels-equal _ _ _ _ (none k side) n line driven h) r row
-      ∙ sym (half-laws .place q k n r driven row))
+      same-places (frameOf p) (frameOf q) (half-laws .whole p) (half-laws .whole q) (λ k n r side driven band.
+      half-laws .place p k n r driven band
+      ∙ half-laws .by-pixels _ _ _ _ n (λ line h. pixels-equal _ _ _ _ (none k side) n line driven h) r band
+      ∙ sym (half-laws .place q k n r driven band))
     where
       none : (k : ℕ) → k < 2 → pixelsChanged p q k ≡ 0
       none k side =
@@ -59,8 +59,8 @@ module _ (p q : Panel) where
 
   pub same-no-pixels : frameOf p ≡ frameOf q → (k : ℕ) → pixelsChanged p q k ≡ 0
   same-no-pixels same k =
-      none-changed (chipAt p k) (ramAt p k) (chipAt q k) (ramAt q k) (λ n r driven row.
-      sym (half-laws .place p k n r driven row) ∙ ap (λ (f : List ℕ). getD f (framePlace k n r) 0) same ∙ half-laws .place q k n r driven row)
+      none-changed (chipAt p k) (ramAt p k) (chipAt q k) (ramAt q k) (λ n r driven band.
+      sym (half-laws .place p k n r driven band) ∙ ap (λ (f : List ℕ). getD f (framePlace k n r) 0) same ∙ half-laws .place q k n r driven band)
 
   -- so the bytes are the same exactly when both counts are 0
   pub frames-by-counts : sameBytes (frameOf p) (frameOf q) ≡ eqb (pixelsChanged p q 0 + pixelsChanged p q 1) 0

@@ -18,17 +18,17 @@ use Rattle.sed1520.specs.declared.bus.Record.{Record}
 use Rattle.sed1520.specs.declared.registers.Chip.{Chip}
 use Rattle.sed1520.proofs.CycleKeeps.{every-cycle-keeps}
 use Rattle.sed1520.proofs.CycleTouches.{every-cycle-touches}
-use Rattle.frame.specs.Frame.{segments, columnOf, segmentPixels}
+use Rattle.frame.specs.Frame.{segments, ramColumn, segmentPixels}
 use Rattle.frame.specs.Laws.{SameShown}
 use Rattle.frame.specs.declared.segment.Segment.{Segment}
 use Rattle.frame.proofs.HalfLaws.{half-laws}
 use Rattle.frame.proofs.Lines.{no-segment}
 use Rattle.visible.specs.Changes.{halfChanged}
-use Rattle.visible.specs.Sight.{bitsDiffering, sameRegisters, halfSight, halfSightOf}
+use Rattle.visible.specs.Sight.{bitsDiffering, sameShownRegisters, halfSight, halfSightOf}
 use Rattle.visible.proofs.HalfCounts.{segment-counted, same-half, one-segment}
 
 -- only one segment shows the column at which a chip stands
-other-column : (c : Chip) (n : ℕ) → n < segments → (n ≡ columnOf c (c .column) → ⊥) → columnOf c n ≡ c .column → ⊥
+other-column : (c : Chip) (n : ℕ) → n < segments → (n ≡ ramColumn c (c .column) → ⊥) → ramColumn c n ≡ c .column → ⊥
 other-column c n driven apart = by (c .reverse) apart
   where
     by : (t : Bool) → (n ≡ if t (79 - c .column) (c .column) → ⊥) → if t (79 - n) n ≡ c .column → ⊥
@@ -36,8 +36,8 @@ other-column c n driven apart = by (c .reverse) apart
     by false apart e = apart e
 
 -- the same registers over the same RAM
-pub same-registers : (c d : Chip) (ram : List ℕ) → shownBy d ≡ shownBy c → halfChanged c ram d ram ≡ 0
-same-registers c d ram same = same-half c ram d ram (λ n h. record { registers = sym same; bytes = λ row l shows. refl })
+pub same-shown-registers : (c d : Chip) (ram : List ℕ) → shownBy d ≡ shownBy c → halfChanged c ram d ram ≡ 0
+same-shown-registers c d ram same = same-half c ram d ram (λ n h. record { registers = sym same; bytes = λ row l shows. refl })
 
 pub alike : (a b : Bool) → Bool·beq a b ≡ true → a ≡ b
 alike true true e = refl
@@ -51,8 +51,8 @@ unlike true false e same = true≢false same
 unlike false true e same = false≢true same
 unlike false false e same = true≢false e
 
-pub registers-alike : (c d : Chip) → sameRegisters c d ≡ true → shownBy d ≡ shownBy c
-unfolding sameRegisters
+pub registers-alike : (c d : Chip) → sameShownRegisters c d ≡ true → shownBy d ≡ shownBy c
+unfolding sameShownRegisters
 registers-alike c d t =
     let display = both (Bool·beq (c .«display_on») (d .«display_on»)) _ t in
     let static = both (Bool·beq (c .«static_on») (d .«static_on»)) _ (display .1) in
@@ -79,12 +79,12 @@ module _ (r : Record) (c : Chip) (ram : List ℕ) (o : Outcome) (e : o ≡ cycle
   ram-kept other = rw e (every-cycle-touches r c ram .ram-kept other)
 
   -- no command: the same is shown in every segment but that of the chip's column
-  other-segments : (r .lines ≡ 2 → ⊥) → (n : ℕ) → n < segments → (n ≡ columnOf c (c .column) → ⊥) → SameShown c next ram (o .ram) n
+  other-segments : (r .lines ≡ 2 → ⊥) → (n : ℕ) → n < segments → (n ≡ ramColumn c (c .column) → ⊥) → SameShown c next ram (o .ram) n
   other-segments other n driven apart =
       record {
         registers = sym (registers-kept other);
         bytes = λ row l shows.
-            rw e (sym (every-cycle-touches r c ram .columns-kept _ (columnOf c n) (half-laws .column c n driven) (other-column c n driven apart)));
+            rw e (sym (every-cycle-touches r c ram .columns-kept _ (ramColumn c n) (half-laws .column c n driven) (other-column c n driven apart)));
       }
 
   -- a chip that fits its RAM fits it after the record, and the chip as it was still fits it
@@ -102,7 +102,7 @@ module _ (r : Record) (c : Chip) (ram : List ℕ) (o : Outcome) (e : o ≡ cycle
       → halfSight (record { number = o .answer .number; chip = next; pixels = n }) (o .ram) ≡ halfSightOf r c ram
   seen n counted = rw (counted, e)
 
-  pub write-sight : Fit c ram → (r .lines ≡ 2 → ⊥) → {n : ℕ} {one two : Segment} → n ≡ columnOf c (c .column) → one ≡ segmentPixels c ram n
+  pub write-sight : Fit c ram → (r .lines ≡ 2 → ⊥) → {n : ℕ} {one two : Segment} → n ≡ ramColumn c (c .column) → one ≡ segmentPixels c ram n
       → two ≡ segmentPixels next (o .ram) n → bitsDiffering (one .pixels) (two .pixels) ≡ halfChanged c ram next (o .ram)
   unfolding sumBelow
   write-sight fit other {n} here is-one is-two =
@@ -120,7 +120,7 @@ module _ (r : Record) (c : Chip) (ram : List ℕ) (o : Outcome) (e : o ≡ cycle
 
   -- registers that stand alike over a RAM that was not written
   pub same-sight : (r .lines ≡ 3 → ⊥) → shownBy next ≡ shownBy c → 0 ≡ halfChanged c ram next (o .ram)
-  same-sight other same = rw (ram-kept other) (sym (same-registers c next ram same))
+  same-sight other same = rw (ram-kept other) (sym (same-shown-registers c next ram same))
 
   -- neither a command nor a data write
   pub read-sight : (r .lines ≡ 2 → ⊥) → (r .lines ≡ 3 → ⊥) → 0 ≡ halfChanged c ram next (o .ram)

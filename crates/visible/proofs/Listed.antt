@@ -14,10 +14,10 @@ use Rattle.basics.proofs.Chosen.{ChosenList, chosen-list}
 use Rattle.basics.proofs.Run.{run-keeps, leads-or-stays}
 use Rattle.basics.proofs.Tests.{tested}
 use Rattle.sed1520.specs.Laws.{sent}
-use Rattle.panel.specs.Panel.{Panel, stepped, panelTurn}
+use Rattle.panel.specs.Panel.{Panel, stepped, panelStep}
 use Rattle.sed1520.specs.declared.bus.Record.{Record}
 use Rattle.panel.proofs.PanelLaws.{every-record-apart}
-use Rattle.visible.specs.Changes.{before, changedAt, pixelsChanged, Entry, entryOf, entryAt, entriesOf}
+use Rattle.visible.specs.Changes.{before, changedAt, pixelsChanged, Entry, asEntry, entryAt, allEntries}
 use Rattle.visible.specs.Promises.{entryNo, Listed, Unseen, EntrySays, EveryListSays}
 use Rattle.visible.proofs.FramesSame.{no-pixels-same, same-no-pixels}
 use Rattle.visible.proofs.PanelSights.{other-pixels}
@@ -41,7 +41,7 @@ module _ (p : Panel) (rs : List Record) where
   changed-seen : (k : ℕ) → changedAt p rs k ≡ true → Unseen p rs k → ⊥
   changed-seen k t unseen = true≢false (sym (are-same _ _ (sym unseen)) ∙ not-true _ t)
 
-  chosen : ChosenList (changedAt p rs) (entryAt p rs) (λ (e : Entry). e .index) (λ k. refl) (entryOf 0 0 0) 0 (length rs) (entriesOf p rs)
+  chosen : ChosenList (changedAt p rs) (entryAt p rs) (λ (e : Entry). e .index) (λ k. refl) (asEntry 0 0 0) 0 (length rs) (allEntries p rs)
   chosen = chosen-list _ _ _ _ _ 0 (length rs)
 
   listed-or-unseen : (k : ℕ) → k < length rs → Listed p rs k ⊎ Unseen p rs k
@@ -51,16 +51,16 @@ module _ (p : Panel) (rs : List Record) where
   module _ (image : length (p .ram) ≡ 640) where
     whole-before : (k : ℕ) → length (before p rs k .ram) ≡ 640
     whole-before k =
-        run-keeps panelTurn (λ (q : Panel). length (q .ram) ≡ 640) (λ q r whole _. every-record-apart q whole r .image) (take k rs) p image
+        run-keeps panelStep (λ (q : Panel). length (q .ram) ≡ 640) (λ q r whole _. every-record-apart q whole r .image) (take k rs) p image
 
     -- a record that is accepted leads on, any other leaves the panel
     one-half-same : (k : ℕ) → k < length rs → HalfSame (before p rs k) (before p rs (suc k))
     one-half-same k h =
         let q = before p rs k in
         rw (take-suc rs k (sent 0 0 0) h)
-        (leads-or-stays panelTurn (HalfSame q) p (take k rs) _ (stepped-half q (whole-before k) _) (inl (same-no-pixels q q refl 0)))
+        (leads-or-stays panelStep (HalfSame q) p (take k rs) _ (stepped-half q (whole-before k) _) (inl (same-no-pixels q q refl 0)))
 
-    entry-says : (i : ℕ) → i < length (entriesOf p rs) → EntrySays p rs i
+    entry-says : (i : ℕ) → i < length (allEntries p rs) → EntrySays p rs i
     entry-says i h =
         let own = chosen .each i h in
         let k = entryNo p rs i .index in

@@ -13,7 +13,7 @@ use Rattle.basics.specs.Choice.{if}
 use Rattle.basics.specs.Halves.{partPut}
 use Rattle.basics.proofs.Tests.{tested}
 use Rattle.sed1520.specs.Cycle.{Outcome}
-use Rattle.panel.specs.Panel.{Panel, panelOf, chipAt, ramAt, outcomeOf, stepped}
+use Rattle.panel.specs.Panel.{Panel, asPanel, chipAt, ramAt, outcomeOf, stepped}
 use Rattle.sed1520.specs.declared.bus.Record.{Record}
 use Rattle.sed1520.proofs.CycleKeeps.{every-cycle-keeps}
 use Rattle.panel.proofs.PanelLaws.{every-record-apart}
@@ -21,7 +21,7 @@ use Rattle.visible.specs.Changes.{halfChanged, pixelsChanged}
 use Rattle.visible.specs.Sight.{HalfSight, halfSight, halfSightOf, Sight, sight, sightOf}
 use Rattle.sed1520.specs.declared.registers.Chip.{Chip}
 use Rattle.visible.specs.declared.half.Seen.{Seen}
-use Rattle.visible.proofs.HalfSights.{alike, unlike, same-registers}
+use Rattle.visible.proofs.HalfSights.{alike, unlike, same-shown-registers}
 
 -- an outcome of a cycle as a half's sight
 abbrev asSeen : Chip → List ℕ → Outcome → HalfSight
@@ -64,7 +64,7 @@ module _ (p : Panel) (image : length (p .ram) ≡ 640) (r : Record) where
   other-pixels j other =
       let apart = every-record-apart p image r in
       ap₂ (halfChanged (chipAt p j) (ramAt p j)) (apart .other-chip j other) (apart .other-ram j other)
-      ∙ same-registers (chipAt p j) (chipAt p j) (ramAt p j) refl
+      ∙ same-shown-registers (chipAt p j) (chipAt p j) (ramAt p j) refl
 
   pub half-pixels : (j : ℕ) → pixelsChanged p next j ≡ if (Bool·beq (eqb j 0) (eqb k 0)) own 0
   half-pixels j =
@@ -77,7 +77,8 @@ module _ (p : Panel) (image : length (p .ram) ≡ 640) (r : Record) where
   abbrev seenFrom : HalfSight → Sight
   seenFrom h =
       let left = eqb k 0 in
-      sight (h .answer .number) (panelOf (if left (h .answer .chip) (p .left)) (if left (p .right) (h .answer .chip)) (partPut 320 k (p .ram) (h .lent)))
+      sight (h .answer .number)
+      (asPanel (if left (h .answer .chip) (p .left)) (if left (p .right) (h .answer .chip)) (partPut 320 k (p .ram) (h .lent)))
       (if left (h .answer .pixels) 0) (if left 0 (h .answer .pixels))
 
   panel-sight : (h : HalfSight) → h ≡ halfSightOf r (chipAt p k) (ramAt p k) → seenFrom h ≡ sightOf p r
@@ -97,9 +98,9 @@ module _ (p : Panel) (image : length (p .ram) ≡ 640) (r : Record) where
 
   -- a record to the left chip, and one to the right
   pub left-sight : k ≡ 0 → {s : Seen} {bytes : List ℕ} → halfSight s bytes ≡ halfSightOf r (p .left) (take 320 (p .ram))
-      → sight (s .number) (panelOf (s .chip) (p .right) (bytes ++ drop 320 (p .ram))) (s .pixels) 0 ≡ sightOf p r
+      → sight (s .number) (asPanel (s .chip) (p .right) (bytes ++ drop 320 (p .ram))) (s .pixels) 0 ≡ sightOf p r
   left-sight here {s} {bytes} e = let t = eq-eqb k 0 here in rw t at (panel-sight (halfSight s bytes) (rw t e))
 
   pub right-sight : (k ≡ 0 → ⊥) → {s : Seen} {bytes : List ℕ} → halfSight s bytes ≡ halfSightOf r (p .right) (drop 320 (p .ram))
-      → sight (s .number) (panelOf (p .left) (s .chip) (take 320 (p .ram) ++ bytes)) 0 (s .pixels) ≡ sightOf p r
+      → sight (s .number) (asPanel (p .left) (s .chip) (take 320 (p .ram) ++ bytes)) 0 (s .pixels) ≡ sightOf p r
   right-sight there {s} {bytes} e = let t = ne-eqb k 0 there in rw t at (panel-sight (halfSight s bytes) (rw t e))

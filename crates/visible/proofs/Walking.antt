@@ -11,19 +11,19 @@ use lib.ListN.{length, getD, take, drop, length-append}
 use lib.Seq.{take-all, take-suc, split-at}
 use Rattle.basics.specs.Choice.{if}
 use Rattle.basics.specs.Lists.{joined}
-use Rattle.basics.specs.Run.{Run, ranTo, runOf}
+use Rattle.basics.specs.Run.{Run, asRun, runOf}
 use Rattle.basics.proofs.Lists.{joined-next}
 use Rattle.basics.proofs.Run.{one-more, refused-next}
 use Rattle.basics.proofs.Tests.{when}
 use Rattle.sed1520.specs.Cycle.{Reply}
-use Rattle.panel.specs.Panel.{Panel, panelOf, outcomeOf, stepped, panelTurn, panelRun, Whole}
+use Rattle.panel.specs.Panel.{Panel, asPanel, outcomeOf, stepped, panelStep, panelRun, Whole}
 use Rattle.sed1520.specs.Records.{wholeRecords}
 use Rattle.sed1520.specs.declared.bus.Record.{Record}
 use Rattle.sed1520.specs.declared.registers.Chip.{Chip}
 use Rattle.panel.proofs.PanelLaws.{refused-record, stepped-whole}
 use Rattle.sed1520.proofs.Records.{recordFrom, front-at, records-length, record-at}
 use Rattle.panel.specs.Trace.{traceRun}
-use Rattle.visible.specs.Changes.{before, changedAt, pixelsChanged, Entry, entryOf, entryAt, entriesBefore}
+use Rattle.visible.specs.Changes.{before, changedAt, pixelsChanged, Entry, asEntry, entryAt, entriesBefore}
 use Rattle.visible.specs.Sight.{Sight, sightOf, watched, Listing, listing, oneMore, putEntries, walkLeft, walkOf}
 use Rattle.visible.specs.declared.watch.Watched.{Watched}
 use Rattle.visible.proofs.FramesSame.{frames-by-counts}
@@ -34,19 +34,19 @@ use Rattle.visible.proofs.Listings.{none-put, same-room, more-listed}
 abbrev listedAs : List Entry → List ℕ → Listing
 listedAs list buffer = listing (length list) (putEntries list buffer)
 
-pub record Upto (p : Panel) (trace buffer : List ℕ) (left right : Chip) (ram entries : List ℕ) (listed at : ℕ) : Type 0 where
+pub record WalkedTo (p : Panel) (trace buffer : List ℕ) (left right : Chip) (ram entries : List ℕ) (listed at : ℕ) : Type 0 where
   pub size : length trace ≤ 65536
   pub within : at ≤ length trace / 4
-  pub whole : Whole (panelOf left right ram)
+  pub whole : Whole (asPanel left right ram)
   pub replies : List Reply
   pub replied : length replies ≡ at
-  pub run : panelRun p (take at (wholeRecords trace)) ≡ ranTo 0 replies (panelOf left right ram)
+  pub run : panelRun p (take at (wholeRecords trace)) ≡ asRun 0 replies (asPanel left right ram)
   pub so-listed : listing listed entries ≡ listedAs (entriesBefore p (wholeRecords trace) at) buffer
   pub few : listed ≤ at
 
 -- before the first record
-pub started : (left right : Chip) (ram trace buffer : List ℕ) → Whole (panelOf left right ram) → length trace ≤ 65536
-    → Upto (panelOf left right ram) trace buffer left right ram buffer 0 0
+pub started : (left right : Chip) (ram trace buffer : List ℕ) → Whole (asPanel left right ram) → length trace ≤ 65536
+    → WalkedTo (asPanel left right ram) trace buffer left right ram buffer 0 0
 unfolding runOf joined
 started left right ram trace buffer whole size =
     record {
@@ -67,7 +67,7 @@ more-few e l = when (λ (k : Listing). k .answer ≤ l .answer + 1) (eqb (e .lef
 
 -- the entry of a record, by the panels before it and after it
 here-entry : (p : Panel) (rs : List Record) (k : ℕ) (q next : Panel) → before p rs k ≡ q → before p rs (suc k) ≡ next
-    → let e = entryOf k (pixelsChanged q next 0) (pixelsChanged q next 1) in
+    → let e = asEntry k (pixelsChanged q next 0) (pixelsChanged q next 1) in
     if (changedAt p rs k) (entryAt p rs k ∷ []) [] ≡ if (eqb (e .left + e .right) 0) [] (e ∷ [])
 here-entry p rs k q next is-q is-next =
     rw (is-q, is-next) (rw (frames-by-counts q next) (turned (eqb (pixelsChanged q next 0 + pixelsChanged q next 1) 0) _))
@@ -77,12 +77,12 @@ here-entry p rs k q next is-q is-next =
     turned false e = refl
 
 module _ {p : Panel} {trace buffer : List ℕ} {left right : Chip} {ram entries : List ℕ} {listed at : ℕ}
-    (upto : Upto p trace buffer left right ram entries listed at) where
+    (upto : WalkedTo p trace buffer left right ram entries listed at) where
   abbrev records : List Record
   records = wholeRecords trace
 
   abbrev panel : Panel
-  panel = panelOf left right ram
+  panel = asPanel left right ram
 
   all : length records ≡ length trace / 4
   all = records-length (length trace / 4) trace
@@ -91,7 +91,7 @@ module _ {p : Panel} {trace buffer : List ℕ} {left right : Chip} {ram entries 
   same-size = ap (λ (l : Listing). length (l .lent)) (upto .so-listed) ∙ same-room (entriesBefore p records at) buffer
 
   -- the walk ends here
-  ends : (n : ℕ) → traceRun p trace ≡ ranTo n (upto .replies) panel
+  ends : (n : ℕ) → traceRun p trace ≡ asRun n (upto .replies) panel
       → walkLeft (record { number = n; place = at; entries = listed }) ram entries ≡ walkOf p trace buffer
   ends n e =
       rw (e, upto .replied)
@@ -112,10 +112,10 @@ module _ {p : Panel} {trace buffer : List ℕ} {left right : Chip} {ram entries 
     number-is : w .number ≡ outcomeOf panel bus .answer .number
     number-is = ap (λ (s : Sight). s .number) seen
 
-    panel-is : panelOf (w .left) (w .right) ram′ ≡ stepped panel bus
+    panel-is : asPanel (w .left) (w .right) ram′ ≡ stepped panel bus
     panel-is = ap (λ (s : Sight). s .panel) seen
 
-    pub whole-then : Whole (panelOf (w .left) (w .right) ram′)
+    pub whole-then : Whole (asPanel (w .left) (w .right) ram′)
     whole-then = rw panel-is (stepped-whole panel bus (upto .whole))
 
     pub left-few : w .«left_pixels» < 65536
@@ -129,22 +129,22 @@ module _ {p : Panel} {trace buffer : List ℕ} {left right : Chip} {ram entries 
     refused-here h =
         let nonzero : outcomeOf panel bus .answer .number ≡ 0 → ⊥ = λ e. h (number-is ∙ e) in
         let same = ap (λ (q : Panel). q .ram) (panel-is ∙ refused-record panel bus nonzero) in
-        let next = refused-next panelTurn p (take at records) (upto .run) bus (drop (suc at) records) nonzero in
+        let next = refused-next panelStep p (take at records) (upto .run) bus (drop (suc at) records) nonzero in
         let cut = rw here at (split-at records at bus (omega (arith, all))) in
         rw same (ends (w .number) (rw (← cut, ← number-is) at next))
 
     -- an accepted record: its answer, and its entry behind those before it
     module _ (h : w .number ≡ 0) where
       abbrev reply : Reply
-      reply = panelTurn panel bus .answer
+      reply = panelStep panel bus .answer
 
-      next-run : panelRun p (take (suc at) records) ≡ ranTo 0 (upto .replies ++ (reply ∷ [])) (stepped panel bus)
+      next-run : panelRun p (take (suc at) records) ≡ asRun 0 (upto .replies ++ (reply ∷ [])) (stepped panel bus)
       next-run =
           let records-then = rw here at (take-suc records at bus (omega (arith, all))) in
-          rw records-then (one-more panelTurn p (take at records) (upto .run) bus (sym number-is ∙ h))
+          rw records-then (one-more panelStep p (take at records) (upto .run) bus (sym number-is ∙ h))
 
       abbrev entry : Entry
-      entry = entryOf at (w .«left_pixels») (w .«right_pixels»)
+      entry = asEntry at (w .«left_pixels») (w .«right_pixels»)
 
       grown : entriesBefore p records (at + 1) ≡ entriesBefore p records at ++ if (eqb (entry .left + entry .right) 0) [] (entry ∷ [])
       grown =
@@ -157,7 +157,7 @@ module _ {p : Panel} {trace buffer : List ℕ} {left right : Chip} {ram entries 
           (ap (λ (r : Run Panel Reply). r .state) next-run)))
 
       pub accepted-here : {n : ℕ} {entries′ : List ℕ} → listing n entries′ ≡ oneMore entry (listing listed entries)
-          → Upto p trace buffer (w .left) (w .right) ram′ entries′ n (at + 1)
+          → WalkedTo p trace buffer (w .left) (w .right) ram′ entries′ n (at + 1)
       accepted-here put =
           record {
             size = upto .size;

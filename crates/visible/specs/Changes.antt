@@ -46,22 +46,22 @@ pub record Entry : Type 0 where
   pub right : ℕ
 
 -- an entry of three numbers
-abbrev pub entryOf : ℕ → ℕ → ℕ → Entry
-entryOf index left right = record { index = index; left = left; right = right }
+abbrev pub asEntry : ℕ → ℕ → ℕ → Entry
+asEntry index left right = record { index = index; left = left; right = right }
 
 -- the entry of record k, listed or not
 abbrev pub entryAt : Panel → List Record → ℕ → Entry
 entryAt p rs k =
     let q = before p rs k in let next = before p rs (suc k) in
-    entryOf k (pixelsChanged q next 0) (pixelsChanged q next 1)
+    asEntry k (pixelsChanged q next 0) (pixelsChanged q next 1)
 
 -- the entries of the first n records, in the order of the trace
 abbrev pub entriesBefore : Panel → List Record → ℕ → List Entry
 entriesBefore p rs n = joined (λ k. if (changedAt p rs k) (entryAt p rs k ∷ []) []) 0 n
 
 -- the entries of all records
-abbrev pub entriesOf : Panel → List Record → List Entry
-entriesOf p rs = entriesBefore p rs (length rs)
+abbrev pub allEntries : Panel → List Record → List Entry
+allEntries p rs = entriesBefore p rs (length rs)
 
 -- an entry as 8 bytes, lowest byte first: record (4), pixels changed left (2) and right (2)
 abbrev pub entryBytes : Entry → List ℕ
@@ -75,7 +75,7 @@ entriesBytes entries = flatMap entryBytes entries
 -- refused, with the records before it as place; then 15 where the entries need more than the room, with how many they are as place
 abbrev pub changesTable : Panel → List ℕ → ℕ → List Cause
 changesTable p trace room =
-    let run = traceRun p trace in let entries = entriesOf p (wholeRecords trace) in
+    let run = traceRun p trace in let entries = allEntries p (wholeRecords trace) in
     traceTable (traceSizesWrong (length trace) (length (p .ram)) false) (outOfRange (p .left)) (outOfRange (p .right)) (length trace)
     (cause (run .number) (length (run .answers)) (not (eqb (run .number) 0))
     ∷ cause 15 (length entries) (ltb room (8 * length entries))
@@ -85,6 +85,6 @@ changesTable p trace room =
 -- front of the buffer, the rest as it was
 unfoldable pub changesOf : Panel → List ℕ → List ℕ → Result Verdict (List ℕ)
 changesOf p trace buffer =
-    let entries = entriesOf p (wholeRecords trace) in
+    let entries = allEntries p (wholeRecords trace) in
     unlessRefused (changesTable p trace (length buffer)) (λ n at. result (verdict n at) buffer)
     (result (verdict 0 (length entries)) (entriesBytes entries ++ drop (8 * length entries) buffer))

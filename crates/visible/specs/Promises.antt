@@ -4,21 +4,21 @@ use mathlib.Core.Path.{_≡_}
 use mathlib.Core.List.{List}
 use mathlib.Core.Logic.{_⊎_}
 use lib.ListN.{length, getD}
-use Rattle.panel.specs.Panel.{Panel, outcomeOf, stepped}
+use Rattle.panel.specs.Panel.{imageLength, Panel, outcomeOf, stepped}
 use Rattle.sed1520.specs.Records.{wholeRecords}
 use Rattle.basics.specs.Table.{ExactlyWhen}
 use Rattle.basics.specs.Verdict.{verdict}
 use Rattle.sed1520.specs.declared.bus.Record.{Record}
 use Rattle.frame.specs.Frame.{frameOf}
-use Rattle.visible.specs.Changes.{before, Entry, entryOf, entryAt, entriesOf, changesTable, changesOf}
+use Rattle.visible.specs.Changes.{before, Entry, asEntry, entryAt, allEntries, changesTable, changesOf}
 
--- entry i of the list
+-- entry i of the list of changes
 abbrev pub entryNo : Panel → List Record → ℕ → Entry
-entryNo p rs i = getD (entriesOf p rs) i (entryOf 0 0 0)
+entryNo p rs i = getD (allEntries p rs) i (asEntry 0 0 0)
 
--- some entry is that of record k
+-- record k is listed: some entry is that of record k
 abbrev pub Listed : Panel → List Record → ℕ → Type 0
-Listed p rs k = (i : ℕ) × ((i < length (entriesOf p rs)) × (entryNo p rs i .index ≡ k))
+Listed p rs k = (i : ℕ) × ((i < length (allEntries p rs)) × (entryNo p rs i .index ≡ k))
 
 -- record k leaves the frame as it was
 abbrev pub Unseen : Panel → List Record → ℕ → Type 0
@@ -36,14 +36,14 @@ pub record EntrySays (p : Panel) (rs : List Record) (i : ℕ) : Type 0 where
 -- a record is listed exactly when the frame after it differs from the frame before it, once and in the order of the trace; one that is not
 -- listed changed nothing that can be seen
 pub record ListSays (p : Panel) (rs : List Record) : Type 0 where
-  pub each : (i : ℕ) → i < length (entriesOf p rs) → EntrySays p rs i
+  pub each : (i : ℕ) → i < length (allEntries p rs) → EntrySays p rs i
   pub every : (k : ℕ) → k < length rs → (Unseen p rs k → ⊥) → Listed p rs k
-  pub order : (i j : ℕ) → i < j → j < length (entriesOf p rs) → entryNo p rs i .index < entryNo p rs j .index
+  pub order : (i j : ℕ) → i < j → j < length (allEntries p rs) → entryNo p rs i .index < entryNo p rs j .index
   pub unlisted : (k : ℕ) → k < length rs → (Listed p rs k → ⊥) → Unseen p rs k
 
--- of any records on any panel of 640 bytes
+-- ListSays holds of any records on any panel whose image has 640 bytes
 abbrev pub EveryListSays : Type 0
-EveryListSays = (p : Panel) → length (p .ram) ≡ 640 → (rs : List Record) → ListSays p rs
+EveryListSays = (p : Panel) → length (p .ram) ≡ imageLength → (rs : List Record) → ListSays p rs
 
 -- a status read, a data read and a refused record leave the frame
 pub record LeavesFrame (p : Panel) (r : Record) : Type 0 where
@@ -51,17 +51,17 @@ pub record LeavesFrame (p : Panel) (r : Record) : Type 0 where
   pub data-read : r .lines ≡ 5 → frameOf (stepped p r) ≡ frameOf p
   pub refused : (outcomeOf p r .answer .number ≡ 0 → ⊥) → frameOf (stepped p r) ≡ frameOf p
 
--- on any panel of 640 bytes
+-- LeavesFrame holds of any record on any panel whose image has 640 bytes
 abbrev pub ReadsAndRefusalsUnseen : Type 0
-ReadsAndRefusalsUnseen = (p : Panel) → length (p .ram) ≡ 640 → (r : Record) → LeavesFrame p r
+ReadsAndRefusalsUnseen = (p : Panel) → length (p .ram) ≡ imageLength → (r : Record) → LeavesFrame p r
 
--- the call gives each number exactly when its line says so, else number 0 with how many entries there are as place
+-- the list of changes gives each number exactly when its line says so, else number 0 with how many entries there are as place
 abbrev pub ChangesNumbers : Type 0
 ChangesNumbers =
     (p : Panel) (trace buffer : List ℕ)
-    → ExactlyWhen (changesTable p trace (length buffer)) (verdict 0 (length (entriesOf p (wholeRecords trace)))) (changesOf p trace buffer .answer)
+    → ExactlyWhen (changesTable p trace (length buffer)) (verdict 0 (length (allEntries p (wholeRecords trace)))) (changesOf p trace buffer .answer)
 
--- any refusal changes nothing
+-- the list of changes leaves the entries' buffer as it came wherever its number is not 0
 abbrev pub EveryRefusalKeeps : Type 0
 EveryRefusalKeeps =
     (p : Panel) (trace buffer : List ℕ) → (changesOf p trace buffer .answer .number ≡ 0 → ⊥) → changesOf p trace buffer .lent ≡ buffer

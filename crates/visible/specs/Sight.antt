@@ -10,7 +10,7 @@ use Rattle.basics.specs.Counts.{countBelow}
 use Rattle.basics.specs.Verdict.{Result, result}
 use Rattle.sed1520.specs.Cycle.{cycleOf}
 use Rattle.sed1520.specs.Records.{wholeRecords}
-use Rattle.panel.specs.Panel.{Panel, panelOf, outcomeOf, stepped}
+use Rattle.panel.specs.Panel.{Panel, asPanel, outcomeOf, stepped}
 use Rattle.panel.specs.Trace.{traceRun}
 use Rattle.sed1520.specs.declared.bus.Record.{Record}
 use Rattle.sed1520.specs.declared.registers.Chip.{Chip}
@@ -27,7 +27,7 @@ bitsDiffering one other = countBelow (λ b. not (eqb (one / 2 ^ b % 2) (other / 
 abbrev pub HalfSight : Type 0
 HalfSight = Result Seen (List ℕ)
 
--- what is seen, with the RAM
+-- what is seen of a record on one chip, with the RAM
 abbrev pub halfSight : Seen → List ℕ → HalfSight
 halfSight s ram = result s ram
 
@@ -52,13 +52,13 @@ sight n p left right = record { number = n; panel = p; left = left; right = righ
 abbrev pub sightOf : Panel → Record → Sight
 sightOf p r = let next = stepped p r in sight (outcomeOf p r .answer .number) next (pixelsChanged p next 0) (pixelsChanged p next 1)
 
--- what the code gives back and leaves, as a sight
+-- what the code gives back and leaves for a record on the panel, as a sight
 abbrev pub watched : Watched → List ℕ → Sight
-watched w ram = sight (w .number) (panelOf (w .left) (w .right) ram) (w .«left_pixels») (w .«right_pixels»)
+watched w ram = sight (w .number) (asPanel (w .left) (w .right) ram) (w .«left_pixels») (w .«right_pixels»)
 
--- whether two chips are alike in the registers that a frame looks at
-unfoldable pub sameRegisters : Chip → Chip → Bool
-sameRegisters c d =
+-- whether two chips are alike in the registers that are shown
+unfoldable pub sameShownRegisters : Chip → Chip → Bool
+sameShownRegisters c d =
     Bool·beq (c .«display_on») (d .«display_on») && (Bool·beq (c .«static_on») (d .«static_on») && (Bool·beq (c .«duty_32») (d .«duty_32»)
     && (Bool·beq (c .reverse) (d .reverse) && eqb (c .«start_line») (d .«start_line»))))
 
@@ -66,7 +66,7 @@ sameRegisters c d =
 abbrev pub Listing : Type 0
 Listing = Result ℕ (List ℕ)
 
--- a number of entries, with the buffer
+-- a listing of so many entries, with the buffer
 abbrev pub listing : ℕ → List ℕ → Listing
 listing count buffer = result count buffer
 
@@ -74,7 +74,7 @@ listing count buffer = result count buffer
 abbrev pub putEntry : Entry → ℕ → List ℕ → List ℕ
 putEntry e n buffer = if (ltb n (length buffer / 8)) (take (8 * n) buffer ++ (entryBytes e ++ drop (8 * n + 8) buffer)) buffer
 
--- one entry more, unless it has no pixels
+-- a listing with one entry more, unless that has no pixels
 unfoldable pub oneMore : Entry → Listing → Listing
 oneMore e l = if (eqb (e .left + e .right) 0) l (listing (l .answer + 1) (putEntry e (l .answer) (l .lent)))
 
@@ -92,7 +92,7 @@ pub record WalkLent : Type 0 where
 abbrev pub walkLeft : Walked → List ℕ → List ℕ → Result Walked WalkLent
 walkLeft w ram entries = result w (record { ram = ram; entries = entries })
 
--- the entries of the records that ran: all, or those before the one that was refused
+-- the entries of the records that ran: of all records, or of those before the one that was refused
 abbrev pub entriesRan : Panel → List ℕ → List Entry
 entriesRan p trace = entriesBefore p (wholeRecords trace) (length (traceRun p trace .answers))
 

@@ -1,10 +1,10 @@
 // One record on one chip: how many pixels of its half it changes. Only what the record can change is drawn: nothing for a
-// read, one segment for a data write, the half for a command that changes a register that a frame looks at.
+// read, one segment for a data write, the half for a command that changes a register that is shown.
 ghost use mathlib.Core.Path.{_≡_};
-ghost use Rattle.frame.specs.Frame.{columnOf};
+ghost use Rattle.frame.specs.Frame.{ramColumn};
 ghost use Rattle.sed1520.specs.Laws.{Fit};
 ghost use Rattle.visible.specs.Changes.{halfChanged};
-ghost use Rattle.visible.specs.Sight.{bitsDiffering, sameRegisters, halfSight, halfSightOf};
+ghost use Rattle.visible.specs.Sight.{bitsDiffering, sameShownRegisters, halfSight, halfSightOf};
 use frame::segment::segment_pixels;
 use sed1520::bus::Record;
 use sed1520::bus::cycle;
@@ -41,9 +41,9 @@ fn half_differing(before: Chip, after: Chip, ram: &[u8]) -> u32
     pixels
 }
 
-// Whether two chips are alike in the registers that a frame looks at.
-fn same_registers(one: Chip, other: Chip) -> bool
-    ensures { λ r. ⌜ r ≡ sameRegisters one other ⌝ }
+// Whether two chips are alike in the registers that are shown.
+fn same_shown_registers(one: Chip, other: Chip) -> bool
+    ensures { λ r. ⌜ r ≡ sameShownRegisters one other ⌝ }
 {
     (one.display_on == other.display_on)
         & ((one.static_on == other.static_on)
@@ -54,7 +54,7 @@ fn same_registers(one: Chip, other: Chip) -> bool
 // The segment that shows the column at which a chip stands; past the last segment the column is not shown, and a segment
 // there is refused with no pixels. Past a page's last column nothing is written, and any number will do.
 fn segment_at(chip: Chip) -> usize
-    ensures { λ r. ⌜ r ≡ columnOf chip (chip .column) ⌝ }
+    ensures { λ r. ⌜ r ≡ ramColumn chip (chip .column) ⌝ }
 {
     let column = chip.column as usize;
     if chip.reverse {
@@ -86,7 +86,7 @@ fn watch_write(bus: Record, chip: Chip, ram: &mut [u8]) -> Seen
     }
 }
 
-// A command: it can change the half only where it changes a register that a frame looks at.
+// A command: it can change the half only where it changes a register that is shown.
 fn watch_command(bus: Record, chip: Chip, ram: &mut [u8]) -> Seen
     requires { ⌜ Fit chip (now ram) ⌝ }
     requires { ⌜ bus .lines ≡ 2 ⌝ }
@@ -94,7 +94,7 @@ fn watch_command(bus: Record, chip: Chip, ram: &mut [u8]) -> Seen
 {
     let answer = cycle(bus, chip, ram);
     let next = answer.chip;
-    if same_registers(chip, next) {
+    if same_shown_registers(chip, next) {
         return Seen {
             number: answer.number,
             chip: next,

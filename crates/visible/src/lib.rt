@@ -5,7 +5,7 @@ mod watch;
 
 ghost use mathlib.Core.Path.{_≡_};
 ghost use Rattle.basics.specs.Verdict.{result};
-ghost use Rattle.panel.specs.Panel.{panelOf};
+ghost use Rattle.panel.specs.Panel.{asPanel};
 ghost use Rattle.visible.specs.Changes.{changesOf};
 use crate::walk::ENTRY_BYTES;
 use crate::walk::walk_over;
@@ -19,7 +19,7 @@ use sed1520::registers::Chip;
 // changes nothing.
 pub fn changes(left: Chip, right: Chip, ram: &[u8], trace: &[u8], entries: &mut [u8]) -> Verdict
     ensures { λ r. ⌜ result r (now (entries .exit))
-        ≡ changesOf (panelOf left right (now (ram .entry))) (now (trace .entry)) (now (entries .entry)) ⌝ }
+        ≡ changesOf (asPanel left right (now (ram .entry))) (now (trace .entry)) (now (entries .entry)) ⌝ }
 {
     let wrong = sizes_wrong(trace.len(), ram.len(), false);
     let verdict = trace_verdict(wrong, left, right, trace.len());

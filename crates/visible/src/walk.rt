@@ -2,9 +2,11 @@
 ghost use Prim.Native.Nat.{_<_, _≤_};
 ghost use mathlib.Core.Path.{_≡_};
 ghost use lib.ListN.{length};
+ghost use Rattle.panel.specs.Trace.{traceLimit};
+ghost use Rattle.basics.specs.Bytes.{pairLimit};
 ghost use Rattle.basics.specs.Verdict.{result};
-ghost use Rattle.panel.specs.Panel.{panelOf, Whole};
-ghost use Rattle.visible.specs.Changes.{entryOf, entryBytes};
+ghost use Rattle.panel.specs.Panel.{asPanel, Whole};
+ghost use Rattle.visible.specs.Changes.{asEntry, entryBytes};
 ghost use Rattle.visible.specs.Sight.{listing, oneMore, walkLeft, walkOf, walkOver};
 use crate::watch::watch;
 use panel::chips::IMAGE_BYTES;
@@ -25,10 +27,10 @@ pub(crate) struct Walked {
 // An entry as bytes.
 fn put_entry(bytes: &mut [u8], index: usize, left: u32, right: u32)
     requires { ⌜ length (now bytes) ≡ 8 ⌝ }
-    requires { ⌜ index < 65536 ⌝ }
-    requires { ⌜ left < 65536 ⌝ }
-    requires { ⌜ right < 65536 ⌝ }
-    ensures { λ _. ⌜ now (bytes .exit) ≡ entryBytes (entryOf index left right) ⌝ }
+    requires { ⌜ index < pairLimit ⌝ }
+    requires { ⌜ left < pairLimit ⌝ }
+    requires { ⌜ right < pairLimit ⌝ }
+    ensures { λ _. ⌜ now (bytes .exit) ≡ entryBytes (asEntry index left right) ⌝ }
 {
     bytes[0] = (index % 0x100) as u8;
     bytes[1] = (index / 0x100 % 0x100) as u8;
@@ -43,11 +45,11 @@ fn put_entry(bytes: &mut [u8], index: usize, left: u32, right: u32)
 // An entry more for a record that changed pixels, and none for one that did not: written where there is room for it behind
 // those before it, and counted.
 fn list_entry(entries: &mut [u8], listed: usize, index: usize, left: u32, right: u32) -> usize
-    requires { ⌜ listed < 65536 ⌝ }
-    requires { ⌜ index < 65536 ⌝ }
-    requires { ⌜ left < 65536 ⌝ }
-    requires { ⌜ right < 65536 ⌝ }
-    ensures { λ r. ⌜ listing r (now (entries .exit)) ≡ oneMore (entryOf index left right) (listing listed (now (entries .entry))) ⌝ }
+    requires { ⌜ listed < pairLimit ⌝ }
+    requires { ⌜ index < pairLimit ⌝ }
+    requires { ⌜ left < pairLimit ⌝ }
+    requires { ⌜ right < pairLimit ⌝ }
+    ensures { λ r. ⌜ listing r (now (entries .exit)) ≡ oneMore (asEntry index left right) (listing listed (now (entries .entry))) ⌝ }
 {
     if left + right == 0 {
         return listed;
@@ -63,10 +65,10 @@ fn list_entry(entries: &mut [u8], listed: usize, index: usize, left: u32, right:
 // The records on two chips in range over an image that may change, up to the first that is refused. All entries are counted,
 // and those that there is room for are written.
 fn walk(left: Chip, right: Chip, ram: &mut [u8], trace: &[u8], entries: &mut [u8]) -> Walked
-    requires { ⌜ Whole (panelOf left right (now ram)) ⌝ }
-    requires { ⌜ length (now trace) ≤ 65536 ⌝ }
+    requires { ⌜ Whole (asPanel left right (now ram)) ⌝ }
+    requires { ⌜ length (now trace) ≤ traceLimit ⌝ }
     ensures { λ r. ⌜ walkLeft r (now (ram .exit)) (now (entries .exit))
-        ≡ walkOf (panelOf left right (now (ram .entry))) (now (trace .entry)) (now (entries .entry)) ⌝ }
+        ≡ walkOf (asPanel left right (now (ram .entry))) (now (trace .entry)) (now (entries .entry)) ⌝ }
 {
     let count = trace.len() / RECORD_BYTES;
     let mut now_left = left;
@@ -101,7 +103,7 @@ fn walk(left: Chip, right: Chip, ram: &mut [u8], trace: &[u8], entries: &mut [u8
     }
 }
 
-// The same over an image that stays as it is: the records run on a copy.
+// The walk over an image that stays as it is: the records run on a copy.
 pub(crate) fn walk_over(
     left: Chip,
     right: Chip,
@@ -109,10 +111,10 @@ pub(crate) fn walk_over(
     trace: &[u8],
     entries: &mut [u8],
 ) -> Walked
-    requires { ⌜ Whole (panelOf left right (now ram)) ⌝ }
-    requires { ⌜ length (now trace) ≤ 65536 ⌝ }
+    requires { ⌜ Whole (asPanel left right (now ram)) ⌝ }
+    requires { ⌜ length (now trace) ≤ traceLimit ⌝ }
     ensures { λ r. ⌜ result r (now (entries .exit))
-        ≡ walkOver (panelOf left right (now (ram .entry))) (now (trace .entry)) (now (entries .entry)) ⌝ }
+        ≡ walkOver (asPanel left right (now (ram .entry))) (now (trace .entry)) (now (entries .entry)) ⌝ }
 {
     let mut image = [0u8; IMAGE_BYTES];
     basics::copy(ram, &mut image);

@@ -1,6 +1,6 @@
 // One record on the panel: it goes to the chip that it names, and changes nothing that the other shows.
 ghost use mathlib.Core.Path.{_≡_};
-ghost use Rattle.panel.specs.Panel.{panelOf, Whole};
+ghost use Rattle.panel.specs.Panel.{asPanel, Whole};
 ghost use Rattle.visible.specs.Sight.{watched, sightOf};
 use crate::half::watch_half;
 use sed1520::bus::Record;
@@ -17,8 +17,8 @@ pub(crate) struct Watched {
 
 // A record to the chip that it names, with that chip's part of the image.
 pub(crate) fn watch(bus: Record, left: Chip, right: Chip, ram: &mut [u8]) -> Watched
-    requires { ⌜ Whole (panelOf left right (now ram)) ⌝ }
-    ensures { λ r. ⌜ watched r (now (ram .exit)) ≡ sightOf (panelOf left right (now (ram .entry))) bus ⌝ }
+    requires { ⌜ Whole (asPanel left right (now ram)) ⌝ }
+    ensures { λ r. ⌜ watched r (now (ram .exit)) ≡ sightOf (asPanel left right (now (ram .entry))) bus ⌝ }
 {
     if bus.chip == 0 {
         let seen = watch_half(bus, left, &mut ram[..Chip::RAM_WIDTH]);

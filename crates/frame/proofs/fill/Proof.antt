@@ -1,4 +1,4 @@
--- `frame::fill` meets its contract: the rows so far are the frame's.
+-- `frame::fill` meets its contract: the bands so far are the frame's.
 use native.Mathlib.Omega.{arith}
 use Prim.Native.Nat.{_-_, _*_, _≤_}
 use mathlib.Core.Path.{_≡_}
@@ -7,15 +7,15 @@ use borrow.Author.Needs.{needs}
 use Rattle.basics.specs.Lists.{joined}
 use Rattle.basics.proofs.Filling.{Begun, begun-none, begun-length, begun-all}
 use Rattle.basics.proofs.Parts.{rest}
-use Rattle.panel.specs.Panel.{panelOf}
+use Rattle.panel.specs.Panel.{asPanel}
 use Rattle.panel.proofs.WholePanel.{whole-fit}
-use Rattle.frame.specs.Frame.{columns, frameRow, frameOf}
-use Rattle.frame.proofs.Places.{row-begun}
+use Rattle.frame.specs.Frame.{columns, frameBand, frameOf}
+use Rattle.frame.proofs.Places.{band-begun}
 use Rattle.frame.proofs.fill.Statement.{statement}
 use Rattle.frame.proofs.fill.Tie as tie
 
 abbrev Inv-loop : tie.InvT-loop
-Inv-loop left right ram frame₀ r₀ frame r = (r ≤ 4) × Begun frame₀ (joined (frameRow (panelOf left right ram)) 0 r) (columns * r) frame
+Inv-loop left right ram frame₀ r₀ frame r = (r ≤ 4) × Begun frame₀ (joined (frameBand (asPanel left right ram)) 0 r) (columns * r) frame
 
 abbrev μ-loop : tie.MeasureT-loop
 μ-loop left right ram frame₀ r₀ frame r = 4 - r
@@ -43,7 +43,7 @@ loop-again c =
     let one = two .before .before .before .before .before in
     let loop = one .before .before .before .before in
     let room = loop .before .before .before .pre .1 in
-    (omega arith, row-begun _ _ (loop .loop .inv .1) (omega arith) (one .fill-half .ensures) (two .fill-half2 .ensures))
+    (omega arith, band-begun _ _ (loop .loop .inv .1) (omega arith) (one .fill-half .ensures) (two .fill-half2 .ensures))
 
 returns : tie.Need-returns Inv-loop μ-loop
 unfolding frameOf

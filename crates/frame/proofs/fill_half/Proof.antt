@@ -6,12 +6,12 @@ use lib.ListN.{length}
 use Rattle.basics.specs.Lists.{joined}
 use Rattle.basics.proofs.Filling.{Begun, begun-none, begun-byte, begun-length, begun-all}
 use Rattle.basics.proofs.Lists.{joined-next}
-use Rattle.frame.specs.Frame.{halfRow}
+use Rattle.frame.specs.Frame.{halfBand}
 use Rattle.frame.proofs.fill_half.Statement.{statement}
 use Rattle.frame.proofs.fill_half.Tie as tie
 
 abbrev Inv-loop : tie.InvT-loop
-Inv-loop chip ram r half₀ n₀ half n = (n ≤ length half₀) × Begun half₀ (halfRow n chip ram r) n half
+Inv-loop chip ram r half₀ n₀ half n = (n ≤ length half₀) × Begun half₀ (halfBand n chip ram r) n half
 
 abbrev μ-loop : tie.MeasureT-loop
 μ-loop chip ram r half₀ n₀ half n = length half₀ - n

@@ -11,7 +11,8 @@ use Rattle.frame.proofs.frame.Statement.{statement}
 use Rattle.frame.proofs.frame.Tie as tie
 
 -- what the tests that passed showed: the sizes, and each chip in range
-sizes : (c : tie.Else1) → let at = c .before .before .before .before .args in frameSizesWrong (length (at .ram .now)) (length (at .frame .now)) ≡ false
+sizes : (c : tie.Else1)
+    → let at = c .before .before .before .before .args in frameSizesWrong (length (at .ram .now)) (length (at .frame .now)) ≡ false
 sizes c = sym (c .before .sizes-wrong .ensures) ∙ c .if1 .left
 
 left-in : (c : tie.Else2) → inRange (c .before .before .before .before .before .before .args .left) ≡ true

@@ -1,4 +1,4 @@
--- `pedralume::pedralume_changes` meets its contract: number 1 by the chip records, then the list of changes.
+-- `pedralume::pedralume_changes` meets its contract: number 1 by the length of the chips' bytes, then the list of changes.
 use native.Mathlib.Omega.{arith}
 use mathlib.Core.Path.{sym, ap}
 use Rattle.visible.proofs.ChangesCases.{places-small}

@@ -1,4 +1,4 @@
--- `pedralume::pedralume_frame` meets its contract: number 1 by the chip records, then the frame.
+-- `pedralume::pedralume_frame` meets its contract: number 1 by the length of the chips' bytes, then the frame.
 use native.Mathlib.Omega.{arith}
 use mathlib.Core.Path.{sym, ap}
 use Rattle.frame.proofs.FrameCases.{places-small}

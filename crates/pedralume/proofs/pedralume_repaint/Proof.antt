@@ -1,4 +1,4 @@
--- `pedralume::pedralume_repaint` meets its contract: number 1 by the chip records, then the repaint.
+-- `pedralume::pedralume_repaint` meets its contract: number 1 by the length of the chips' bytes, then the repaint.
 use native.Mathlib.Omega.{arith}
 use mathlib.Core.Path.{sym, ap}
 use Rattle.repaint.proofs.RepaintCases.{places-small}

@@ -1,4 +1,4 @@
--- `pedralume::pedralume_replay` meets its contract: the replay over the records, packed.
+-- `pedralume::pedralume_replay` meets its contract: the replay over the chips' bytes, packed.
 use mathlib.Core.Path.{ap}
 use Rattle.pedralume.specs.Call.{packedReplay}
 use Rattle.pedralume.proofs.AnswersUnpack.{packable}

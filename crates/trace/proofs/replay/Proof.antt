@@ -1,10 +1,10 @@
--- `trace::replay` meets its contract: the replay over the records of both chips, read back.
+-- `trace::replay` meets its contract: the replay over the bytes of both chips, which are read back.
 use Rattle.trace.proofs.InPlace.{by-value}
 use borrow.Author.Needs.{needs}
 use Rattle.trace.proofs.replay.Statement.{statement}
 use Rattle.trace.proofs.replay.Tie as tie
 
--- the places before the chips are read back: the replay, and the records written for it
+-- the places before the chips are read back: the replay, and the chips' bytes written for it
 abbrev replayed : tie.After-chips-in → tie.After-replay-in-place
 replayed c = c .before .before .before .before .before .before .before
 

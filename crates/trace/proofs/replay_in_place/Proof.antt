@@ -33,23 +33,26 @@ passed : (c : tie.Else2) → let at = start (sized (tested c) .before) .args in
     NoneHolds (lines (at .chips .now) (at .ram .now) (at .trace .now) (at .answers .now))
 passed c =
     let at = start (sized (tested c) .before) .args in
-    verdict-passed (at .chips .now) (at .ram .now) (at .trace .now) (at .answers .now) _ (whole (sized (tested c) .before)) (given (tested c)) (omega arith)
+    verdict-passed (at .chips .now) (at .ram .now) (at .trace .now) (at .answers .now) _ (whole (sized (tested c) .before)) (given (tested c))
+    (omega arith)
 
 returns : tie.Need-returns
-returns c = rw (c .ran-nothing .ensures) (sym (chips-refused _ _ _ _ (c .before .if1 .taken)))
+returns c = rw (c .nothing-run .ensures) (sym (chips-refused _ _ _ _ (c .before .if1 .taken)))
 
 returns-2 : tie.Need-returns-2
 returns-2 c =
     let test = c .before .before .before in
-    rw (c .ran-nothing2 .ensures) (sym (verdict-refused _ _ _ _ _ (whole (sized test .before)) (given test) (c .before .if2 .taken)))
+    rw (c .nothing-run2 .ensures) (sym (verdict-refused _ _ _ _ _ (whole (sized test .before)) (given test) (c .before .if2 .taken)))
 
 run-requires : tie.Need-run-requires
 run-requires c κs =
     let else = c .before .before .before in
     let at = start (sized (tested else) .before) .args in
     let none = passed else in
-    let sizes = sizes-right (length (at .trace .now)) _ (length (at .ram .now)) (length (at .answers .now)) (none .0) in
-    (lines-fit (at .chips .now) (at .ram .now) (at .trace .now) (at .answers .now) (whole (sized (tested else) .before)) none, (sizes .space, sizes .short))
+    let sizes = sizes-right (length (at .trace .now)) _ (length (at .ram .now)) (length (at .answers .now)) (none .0) in (
+      lines-fit (at .chips .now) (at .ram .now) (at .trace .now) (at .answers .now) (whole (sized (tested else) .before)) none,
+      (sizes .space, sizes .short),
+    )
 
 returns-3 : tie.Need-returns-3
 returns-3 c =

@@ -6,7 +6,7 @@ use lib.Dec.{eqb}
 use lib.ListN.{getD, length-set}
 use Rattle.panel.specs.Chips.{panelIn}
 use Rattle.trace.specs.Replay.{isCompared}
-use Rattle.trace.proofs.InPlace.{over-records-at}
+use Rattle.trace.proofs.InPlace.{over-bytes-at}
 use Rattle.trace.proofs.Counts.{at-most-one}
 use Rattle.trace.proofs.Upto.{Upto, started, finished, fits-again, refused-here, accepted-here}
 use borrow.Author.Needs.{needs}
@@ -20,7 +20,7 @@ Inv-loop chips₀ ram₀ trace answers₀ compared₀ differing₀ at₀ count c
 abbrev μ-loop : tie.MeasureT-loop
 μ-loop chips₀ ram₀ trace answers₀ compared₀ differing₀ at₀ count chips ram answers compared differing at = count - at
 
--- the places of a turn: the step, from past it; the loop's head. And the start
+-- the places of one record: its step, from past it; the loop's head. And the start
 abbrev stepped : tie.After-struct-known Inv-loop μ-loop → tie.After-step-of-tested-chips Inv-loop μ-loop
 stepped c = c .before .before .before .before .before
 
@@ -40,7 +40,7 @@ returns c =
     let step = stepped (c .before) in
     let state = head step .loop .inv in
     let given = step .step-of-tested-chips .ensures in
-    over-records-at
+    over-bytes-at
     (start (head step) .pre .0)
     (fits-again state (omega arith) given)
     (refused-here state (omega arith) given (c .if1 .taken))
@@ -67,7 +67,7 @@ loop-again c =
 returns-2 : tie.Need-returns-2 Inv-loop μ-loop
 returns-2 c =
     let state = c .before .loop .inv in
-    over-records-at (start (c .before) .pre .0) (state .fits) (finished state (omega arith))
+    over-bytes-at (start (c .before) .pre .0) (state .fits) (finished state (omega arith))
 
 pub run-spec : {M : Type 1} → statement M
 run-spec =

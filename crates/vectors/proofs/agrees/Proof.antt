@@ -1,4 +1,4 @@
--- `vectors::agrees` meets its contract. The invariant: the rows so far have agreed and led to the chip and the RAM as they stand.
+-- `vectors::agrees` meets its contract. The invariant: the cases so far have agreed and led to the chip and the RAM as they stand.
 use Prim.Native.Nat.{_-_}
 use native.Mathlib.Omega.{arith}
 use mathlib.Core.Path.{sym, _∙_, refl}
@@ -8,18 +8,18 @@ use borrow.Author.Tests.{not-true, not-false}
 use borrow.Author.Needs.{needs}
 use Rattle.basics.specs.Lists.{pieces}
 use Rattle.basics.specs.Run.{runOf}
-use Rattle.vectors.proofs.Turns.{Agreed, all-agreed, next-row, last-row}
+use Rattle.vectors.proofs.Steps.{Agreed, all-agreed, next-case, last-case}
 use Rattle.vectors.proofs.agrees.Statement.{statement}
 use Rattle.vectors.proofs.agrees.Tie as tie
 
 abbrev Inv-loop : tie.InvT-loop
-Inv-loop rows ram₀ chip₀ at₀ count ram chip at = Agreed rows ram chip at
+Inv-loop cases ram₀ chip₀ at₀ count ram chip at = Agreed cases ram chip at
 
 abbrev μ-loop : tie.MeasureT-loop
-μ-loop rows ram₀ chip₀ at₀ count ram chip at = count - at
+μ-loop cases ram₀ chip₀ at₀ count ram chip at = count - at
 
--- the places of a turn, from the comparison of its row back: the cycle, and the loop
-abbrev cycled : tie.After-row-agrees Inv-loop μ-loop → tie.After-cycle Inv-loop μ-loop
+-- the places of a step, from the comparison of its case back: the cycle, and the loop
+abbrev cycled : tie.After-case-agrees Inv-loop μ-loop → tie.After-cycle Inv-loop μ-loop
 cycled c = c .before .before
 
 abbrev loop-of : tie.After-cycle Inv-loop μ-loop → tie.At-loop Inv-loop μ-loop
@@ -32,21 +32,21 @@ loop-holds c = record { within = omega arith; image = refl; replies = []; run = 
 slice-aggregate-cycle : tie.Need-slice-aggregate-cycle Inv-loop μ-loop
 slice-aggregate-cycle c = sym (c .before .before .before .before .before .before .before .loop .inv .image)
 
-row-agrees-requires : tie.Need-row-agrees-requires Inv-loop μ-loop
-row-agrees-requires c κs = simp (length-take, length-drop) (omega arith)
+case-agrees-requires : tie.Need-case-agrees-requires Inv-loop μ-loop
+case-agrees-requires c κs = simp (length-take, length-drop) (omega arith)
 
 returns : tie.Need-returns Inv-loop μ-loop
 returns c =
-    let row = c .before in
-    let differs = sym (row .row-agrees .ensures) ∙ not-true _ (c .if1 .taken) in
-    last-row (loop-of (cycled row) .loop .inv) (omega arith) (cycled row .cycle .ensures) differs
+    let case = c .before in
+    let differs = sym (case .case-agrees .ensures) ∙ not-true _ (c .if1 .taken) in
+    last-case (loop-of (cycled case) .loop .inv) (omega arith) (cycled case .cycle .ensures) differs
 
 loop-again : tie.Need-loop-again Inv-loop μ-loop
 loop-again c =
-    let row = c .before .before in
-    let inv = loop-of (cycled row) .loop .inv in
-    let agrees = sym (row .row-agrees .ensures) ∙ not-false _ (c .before .if1 .left) in
-    next-row inv (omega arith) (cycled row .cycle .ensures) agrees (cycled row .cycle .kept .1 .1 .0 ∙ inv .image)
+    let case = c .before .before in
+    let inv = loop-of (cycled case) .loop .inv in
+    let agrees = sym (case .case-agrees .ensures) ∙ not-false _ (c .before .if1 .left) in
+    next-case inv (omega arith) (cycled case .cycle .ensures) agrees (cycled case .cycle .kept .1 .1 .0 ∙ inv .image)
 
 returns-2 : tie.Need-returns-2 Inv-loop μ-loop
 returns-2 c = all-agreed (c .before .loop .inv) (omega arith)
@@ -69,7 +69,7 @@ agrees-spec =
     (λ c. simp (length-take, length-drop) (omega arith))
     slice-aggregate-cycle
     (λ c κs. search needs)
-    row-agrees-requires
+    case-agrees-requires
     returns
     (λ c. search needs)
     (λ c. search needs)

@@ -1,17 +1,17 @@
--- `vectors::main` meets its contract: each sequence of rows, computed from the definitions, agrees.
+-- `vectors::main` meets its contract: each sequence of cases, computed from the definitions, agrees.
 use borrow.Author.Needs.{needs}
 use Rattle.basics.specs.Lists.{pieces}
 use Rattle.basics.specs.Run.{runOf}
 use Rattle.sed1520.specs.Memory.{ramIndex}
 use Rattle.sed1520.specs.Chip.{inRange, fresh}
 use Rattle.sed1520.specs.Command.{among, decodeOf}
-use Rattle.sed1520.specs.Cycle.{execute, commandWrite, dataWrite, afterRead, dataRead, statusOf, actionOf, busRefusal, stepOf, cycleOf}
-use Rattle.vectors.specs.Rows.{rowAgrees, agreesOf}
+use Rattle.sed1520.specs.Cycle.{execute, commandWrite, dataWrite, afterRead, dataRead, statusByte, actionOf, busRefusal, stepOf, cycleOf}
+use Rattle.vectors.specs.Cases.{caseAgrees, agreesOf}
 use Rattle.vectors.proofs.main.Statement.{statement}
 use Rattle.vectors.proofs.main.Tie as tie
 
 pub main-spec : {M : Type 1} → statement M
-unfolding agreesOf runOf pieces rowAgrees ramIndex cycleOf stepOf busRefusal actionOf commandWrite dataWrite dataRead afterRead statusOf
+unfolding agreesOf runOf pieces caseAgrees ramIndex cycleOf stepOf busRefusal actionOf commandWrite dataWrite dataRead afterRead statusByte
     execute decodeOf among inRange fresh
 main-spec =
     tie.close

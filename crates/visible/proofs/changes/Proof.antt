@@ -7,10 +7,11 @@ use lib.ListN.{length}
 use borrow.Author.Needs.{needs}
 use Rattle.basics.specs.Table.{verdictBy, NoneHolds}
 use Rattle.basics.specs.Verdict.{verdict, Result, result}
-use Rattle.panel.specs.Panel.{Panel, panelOf, Whole}
+use Rattle.panel.specs.Panel.{Panel, asPanel, Whole}
 use Rattle.visible.specs.Sight.{entriesRan, walkedOf, walkOver}
 use Rattle.visible.specs.declared.walk.Walked.{Walked}
-use Rattle.visible.proofs.ChangesCases.{nothing-put, early, by-sizes, trace-refused, trace-passed, passes-whole, record-refused, short, all-listed}
+use Rattle.visible.proofs.ChangesCases.{nothing-put, early, by-sizes, trace-refused, trace-passed, passes-whole, record-refused}
+use Rattle.visible.proofs.ChangesCases.{short, all-listed}
 use Rattle.visible.proofs.Listings.{same-room}
 use Rattle.visible.proofs.changes.Statement.{statement}
 use Rattle.visible.proofs.changes.Tie as tie
@@ -21,7 +22,7 @@ start c = c .before .before .before .before .before
 
 -- the panel that the records run on; and that verdict
 abbrev panel : tie.Start → Panel
-panel c = panelOf (c .args .left) (c .args .right) (c .args .ram .now)
+panel c = asPanel (c .args .left) (c .args .right) (c .args .ram .now)
 
 by-table : (c : tie.After-trace-verdict) → c .trace-verdict .result ≡ verdictBy (early (panel (start c)) (start c .args .trace .now)) (verdict 0 0)
 by-table c = by-sizes (panel (start c)) (start c .args .trace .now) (c .before .sizes-wrong .ensures) (c .trace-verdict .ensures)
@@ -81,7 +82,8 @@ same-length-3 : tie.Need-same-length-3
 same-length-3 c =
     let second = c .before .before .before in
     let at = start (first-walk (second .before .before) .before .before .before .before) in
-    ap (λ (f : Result Walked (List ℕ)). length (f .lent)) (written second) ∙ same-room (entriesRan (panel at) (at .args .trace .now)) (at .args .entries .now)
+    ap (λ (f : Result Walked (List ℕ)). length (f .lent)) (written second)
+    ∙ same-room (entriesRan (panel at) (at .args .trace .now)) (at .args .entries .now)
 
 pub changes-spec : {M : Type 1} → statement M
 changes-spec =

@@ -16,18 +16,18 @@ returns : tie.Need-returns
 unfolding chipsIn
 returns c = rw (ne-eqb _ 24 (c .before .before .if1 .taken), c .before .no-chip .ensures, c .no-chip2 .ensures)
 
--- the records, past the test of their length, and that the left one has 12 bytes
-abbrev records : tie.Else1 → List ℕ
-records c = c .before .before .args .records .now
+-- the chips' bytes, past the test of their length, and that the left chip has 12 of them
+abbrev bytes : tie.Else1 → List ℕ
+bytes c = c .before .before .args .bytes .now
 
-left-length : (c : tie.After-chip-in-arg) → length (take 12 (records (c .before))) ≡ 12
-left-length c = length-take-le 12 (records (c .before)) (omega arith)
+left-length : (c : tie.After-chip-in-arg) → length (take 12 (bytes (c .before))) ≡ 12
+left-length c = length-take-le 12 (bytes (c .before)) (omega arith)
 
 returns-2 : tie.Need-returns-2
 unfolding chipsIn
 returns-2 c =
     let left = c .before .before in
-    let both = records (left .before .before) in
+    let both = bytes (left .before .before) in
     rw (eq-eqb (length both) 24 (omega arith), left .chip-in .ensures, c .chip-in2 .ensures, rest both 12)
 
 pub chips-in-spec : {M : Type 1} → statement M

@@ -15,8 +15,8 @@ returns-2 : tie.Need-returns-2
 returns-2 c = sym (image-wrong _ _ _ (c .if2 .taken))
 
 -- the parts that are lent lie within the bytes and within the image
-records-start : (c : tie.After-start-of) → c .start-of .result ≤ 12
-records-start c = start-within 12 (c .before .before .before .before .before .args .bus .chip) _ (c .start-of .ensures)
+bytes-start : (c : tie.After-start-of) → c .start-of .result ≤ 12
+bytes-start c = start-within 12 (c .before .before .before .before .before .args .bus .chip) _ (c .start-of .ensures)
 
 image-start : (c : tie.After-start-of2) → c .start-of2 .result ≤ 320
 image-start c = start-within 320 (c .before .before .before .before .before .before .args .bus .chip) _ (c .start-of2 .ensures)
@@ -25,8 +25,8 @@ returns-3 : tie.Need-returns-3
 returns-3 c =
     let done = c .before .before .before .before in
     let image = done .before .before .before in
-    let records = image .before in
-    on-parts _ _ _ (omega arith) (omega arith) _ _ (records .start-of .ensures) (image .start-of2 .ensures) _ _ _ (done .step-of-tested-bytes .ensures)
+    let own = image .before in
+    on-parts _ _ _ (omega arith) (omega arith) _ _ (own .start-of .ensures) (image .start-of2 .ensures) _ _ _ (done .step-of-tested-bytes .ensures)
 
 pub step-of-tested-chips-spec : {M : Type 1} → statement M
 step-of-tested-chips-spec =
@@ -36,10 +36,10 @@ step-of-tested-chips-spec =
     returns-2
     (λ c κs. search needs)
     (λ c κs. search needs)
-    (λ c. omega (arith, records-start (c .before)))
+    (λ c. omega (arith, bytes-start (c .before)))
     (λ c. search needs)
     (λ c. search needs)
-    (λ c. omega (arith, records-start (c .before)))
+    (λ c. omega (arith, bytes-start (c .before)))
     (λ c. omega (arith, image-start (c .before)))
     (λ c. search needs)
     (λ c. search needs)

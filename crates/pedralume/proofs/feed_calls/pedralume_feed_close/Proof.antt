@@ -1,4 +1,4 @@
--- `pedralume::feed_calls::pedralume_feed_close` meets its contract: number 1 by the record's length, then the close.
+-- `pedralume::feed_calls::pedralume_feed_close` meets its contract: number 1 by the length of the feed's bytes, then the close.
 use native.Mathlib.Omega.{arith}
 use mathlib.Core.Path.{sym}
 use lib.Seq.{length-take-le}

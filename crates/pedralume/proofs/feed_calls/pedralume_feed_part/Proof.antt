@@ -1,4 +1,4 @@
--- `pedralume::feed_calls::pedralume_feed_part` meets its contract: number 1 by the record's length, then the part.
+-- `pedralume::feed_calls::pedralume_feed_part` meets its contract: number 1 by the length of the feed's bytes, then the part.
 use native.Mathlib.Omega.{arith}
 use mathlib.Core.Path.{sym, _∙_}
 use lib.Seq.{length-take-le}

@@ -8,7 +8,7 @@ use Rattle.repaint.proofs.chip_plan.picture_byte.Tie as tie
 shared-slice-read-result : tie.Need-shared-slice-read-result
 shared-slice-read-result c =
     let start = c .before .before .before in
-    let below = place-laws .below (start .args .which) (start .args .n) (start .args .row) 2 (start .pre .1 .0) (start .pre .1 .1) in
+    let below = place-laws .below (start .args .which) (start .args .n) (start .args .band) 2 (start .pre .1 .0) (start .pre .1 .1) in
     omega (arith, c .before .place .ensures, below, start .pre .0)
 
 returns : tie.Need-returns

@@ -14,7 +14,7 @@ use Rattle.repaint.proofs.chip_plan.put_page.Tie as tie
 add-put-record : tie.Need-add-put-record
 add-put-record c =
     let start = c .before .before .before .before in
-    let page = page-small (start .args .chip) (start .args .row) (start .pre .1 .0) in
+    let page = page-small (start .args .chip) (start .args .band) (start .pre .1 .0) in
     omega (arith, c .before .first .ensures, c .hidden-page .ensures, page)
 
 returns : tie.Need-returns
@@ -26,8 +26,8 @@ returns c =
     let lowest = column .before .before in
     let hidden = page .before .before in
     let at = hidden .before .before .before .before .args in
-    let all = written (at .chip) (at .which) (at .picture .now) (at .row) segments in
-    let size = written-length (at .chip) (at .which) (at .picture .now) (at .row) segments in
+    let all = written (at .chip) (at .which) (at .picture .now) (at .band) segments in
+    let size = written-length (at .chip) (at .which) (at .picture .now) (at .band) segments in
     let one = begun-first (at .output .now) (_ ∷ _ ∷ _ ∷ _ ∷ []) refl (page .put-record .ensures) in
     let two = begun-rest one (_ ∷ _ ∷ _ ∷ _ ∷ []) refl (column .put-record2 .ensures) in
     let three = begun-rest two all size (bytes .put-writes .ensures) in

@@ -14,11 +14,11 @@ use Rattle.repaint.proofs.chip_plan.put_writes.Statement.{statement}
 use Rattle.repaint.proofs.chip_plan.put_writes.Tie as tie
 
 abbrev Inv-loop : tie.InvT-loop
-Inv-loop chip which picture row output₀ j₀ output j =
-    Begun output₀ (written chip which picture row j) (4 * j) output × ((j ≤ segments) × (length output ≡ length output₀))
+Inv-loop chip which picture band output₀ j₀ output j =
+    Begun output₀ (written chip which picture band j) (4 * j) output × ((j ≤ segments) × (length output ≡ length output₀))
 
 abbrev μ-loop : tie.MeasureT-loop
-μ-loop chip which picture row output₀ j₀ output j = segments - j
+μ-loop chip which picture band output₀ j₀ output j = segments - j
 
 loop-holds : tie.Need-loop-holds Inv-loop μ-loop
 unfolding joined flatMap
@@ -27,7 +27,7 @@ loop-holds c = (begun-none _, (omega arith, refl))
 picture-byte-requires : tie.Need-picture-byte-requires Inv-loop μ-loop
 picture-byte-requires c κs =
     let start = c .before .before .before .before .before in
-    (start .pre .0, (rw (c .segment-of .ensures) (segment-small (start .args .chip) _ (omega arith)), start .pre .1 .0))
+    (start .pre .0, (rw (c .column-segment .ensures) (segment-small (start .args .chip) _ (omega arith)), start .pre .1 .0))
 
 put-record-requires : tie.Need-put-record-requires Inv-loop μ-loop
 put-record-requires c κs = simp (length-take, length-drop) (omega arith)
@@ -40,8 +40,8 @@ loop-again c =
     let loop = segment .before .before in
     let start = loop .before .before .before in
     let at = start .args in (
-      begun-write (at .chip) (at .which) (at .picture .now) (at .row) (loop .loop .j) (loop .loop .inv .0)
-          (segment .segment-of .ensures)
+      begun-write (at .chip) (at .which) (at .picture .now) (at .band) (loop .loop .j) (loop .loop .inv .0)
+          (segment .column-segment .ensures)
           (byte .picture-byte .ensures)
           (put .put-record .ensures),
       (omega arith, search needs),

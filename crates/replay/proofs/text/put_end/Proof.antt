@@ -4,7 +4,7 @@ use native.Mathlib.Omega.{arith}
 use mathlib.Core.Path.{_≡_, _∙_}
 use lib.ListN.{length, length-set}
 use borrow.Author.Needs.{needs}
-use Rattle.replay.specs.Text.{endOf}
+use Rattle.replay.specs.Text.{endLine}
 use Rattle.replay.proofs.Digits.{put-one, put-more, put-three, three-length}
 use Rattle.replay.proofs.text.put_end.Statement.{statement}
 use Rattle.replay.proofs.text.put_end.Tie as tie
@@ -78,7 +78,7 @@ same-length : tie.Need-same-length
 same-length c = simp length-set (same-4 (c .before .before))
 
 returns : tie.Need-returns
-unfolding endOf
+unfolding endLine
 returns c =
     let fourth = c .before .before in
     let begin = start (first (second (third fourth))) .args in

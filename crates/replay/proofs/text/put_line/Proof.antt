@@ -3,7 +3,7 @@ use Prim.Native.Nat.{_≤_}
 use native.Mathlib.Omega.{arith}
 use lib.ListN.{length}
 use borrow.Author.Needs.{needs}
-use Rattle.replay.specs.Text.{decimalOf, lineOf}
+use Rattle.replay.specs.Text.{decimalDigits, answerLine}
 use Rattle.replay.proofs.Digits.{put-more, digits-bound}
 use Rattle.replay.proofs.text.put_line.Statement.{statement}
 use Rattle.replay.proofs.text.put_line.Tie as tie
@@ -16,7 +16,7 @@ abbrev second : tie.After-put-hex → tie.After-put-next
 second c = c .before .before .before .before
 
 -- the record's number has at most twenty digits
-few : (c : tie.After-put-digits) → length (decimalOf (c .before .before .before .args .index)) ≤ 20
+few : (c : tie.After-put-digits) → length (decimalDigits (c .before .before .before .args .index)) ≤ 20
 few c = digits-bound 20 (c .before .before .before .args .index)
 
 put-next-requires : tie.Need-put-next-requires
@@ -31,7 +31,7 @@ put-hex-requires c κs =
     omega (arith, kind .put-next .ensures .1, kind .put-next .kept .0, digits .ensures .next-place, digits .kept .0, few (first kind))
 
 returns : tie.Need-returns
-unfolding lineOf
+unfolding answerLine
 returns c =
     let byte = c .before .before in
     let kind = second byte .put-next .ensures in

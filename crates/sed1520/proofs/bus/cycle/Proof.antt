@@ -35,9 +35,9 @@ returns-2 c =
 returns-3 : tie.Need-returns-3
 returns-3 c =
     let test = c .before .before in
-    let told = test .refusal .ensures in
-    let refused = step-refused _ _ _ (λ e. c .before .if3 .taken (told ∙ e)) in
-    rw (c .refused3 .ensures, told) (sym (cycle-step _ _ _ (omega arith) (within (test .before)) ∙ refused))
+    let reported = test .refusal .ensures in
+    let refused = step-refused _ _ _ (λ e. c .before .if3 .taken (reported ∙ e)) in
+    rw (c .refused3 .ensures, reported) (sym (cycle-step _ _ _ (omega arith) (within (test .before)) ∙ refused))
 
 act-requires : tie.Need-act-requires
 act-requires c κs =

@@ -17,7 +17,7 @@ start c = tested (c .before) .before .before .before .before
 returns : tie.Need-returns
 returns c =
     let line = state-line _ _ (tested (c .before .before) .state-verdict .ensures) (c .before .if1 .taken) in
-    c .told .ensures ∙ sym (close-refused _ _ _ line)
+    c .reported .ensures ∙ sym (close-refused _ _ _ line)
 
 returns-2 : tie.Need-returns-2
 returns-2 c =

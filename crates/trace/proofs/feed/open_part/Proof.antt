@@ -7,23 +7,23 @@ use Rattle.basics.specs.Table.{NoneHolds}
 use Rattle.trace.specs.Feed.{partTable, partVerdict}
 use Rattle.trace.specs.FeedInPlace.{feedIn}
 use Rattle.trace.specs.Replay.{InPlace}
-use Rattle.trace.specs.declared.Ran.{Ran}
-use Rattle.trace.proofs.Bounds.{ran-few}
+use Rattle.trace.specs.declared.Tally.{Tally}
+use Rattle.trace.proofs.Bounds.{tally-few}
 use Rattle.trace.proofs.FeedCases.{PartRight, part-right, part-line, part-passed}
-use Rattle.trace.proofs.InPlace.{records-fit}
+use Rattle.trace.proofs.InPlace.{both-pass}
 use Rattle.trace.proofs.KeptOver.{joined-length}
-use Rattle.trace.proofs.PartCases.{not-taken, part-ran}
+use Rattle.trace.proofs.PartCases.{not-taken, part-run}
 use Rattle.trace.proofs.feed.open_part.Statement.{statement}
 use Rattle.trace.proofs.feed.open_part.Tie as tie
 
--- the start, from past the tests; and what they told
+-- the start, from past the tests; and the verdict that they gave
 abbrev start : tie.After-part-verdict → tie.Start
 start c = c .before .before .before .before .before .before .before .before .before
 
-told : (c : tie.After-part-verdict) → let at = start c .args in
+reported : (c : tie.After-part-verdict) → let at = start c .args in
     c .part-verdict .result
     ≡ partVerdict (feedIn (at .chips .now) (at .progress)) (length (at .ram .now)) (length (at .part .now)) (length (at .answers .now))
-told c = rw (c .before .before .before .chips-in .ensures) at (c .part-verdict .ensures)
+reported c = rw (c .before .before .before .chips-in .ensures) at (c .part-verdict .ensures)
 
 -- the test, from past the records run
 abbrev test : tie.After-run-part → tie.Else1
@@ -31,7 +31,7 @@ test c = c .before .before .before .before
 
 none : (c : tie.Else1) → let at = start (c .before .before) .args in
     NoneHolds (partTable (feedIn (at .chips .now) (at .progress)) (length (at .ram .now)) (length (at .part .now)) (length (at .answers .now)))
-none c = part-passed _ _ _ _ _ (told (c .before .before)) (omega arith)
+none c = part-passed _ _ _ _ _ (reported (c .before .before)) (omega arith)
 
 passed : (c : tie.Else1) → let at = start (c .before .before) .args in
     PartRight (feedIn (at .chips .now) (at .progress)) (length (at .ram .now)) (length (at .part .now)) (length (at .answers .now))
@@ -40,14 +40,14 @@ passed c = part-right _ _ _ _ (none c)
 returns : tie.Need-returns
 returns c =
     let verdict = c .before .before .before in
-    let line = part-line _ _ _ _ _ (told verdict) (c .before .if1 .taken) in
-    rw (c .told-in-place .ensures) (not-taken _ _ _ _ _ (start verdict .pre) _ _ line)
+    let line = part-line _ _ _ _ _ (reported verdict) (c .before .if1 .taken) in
+    rw (c .reported-in-place .ensures) (not-taken _ _ _ _ _ (start verdict .pre) _ _ line)
 
 run-part-requires : tie.Need-run-part-requires
 run-part-requires c κs =
     let else = c .before .before .before in
     let right = passed else in (
-      records-fit _ _ (start (else .before .before) .pre) (right .state .left) (right .state .right) (right .sizes .image),
+      both-pass _ _ (start (else .before .before) .pre) (right .state .left) (right .state .right) (right .sizes .image),
       (right .state .few, (right .sizes .short, right .sizes .space)),
     )
 
@@ -56,7 +56,7 @@ moved-on-requires c κs =
     let ran = c .before .before .before .before .before .before in
     let right = passed (test ran) in
     let at = start (test ran .before .before) .args in
-    let few = ran-few _ _ _ (ap (λ (i : InPlace Ran). i .answer) (ran .run-part .ensures)) in
+    let few = tally-few _ _ _ (ap (λ (i : InPlace Tally). i .answer) (ran .run-part .ensures)) in
     let state = right .state in
     let bytes = joined-length (at .progress) (state .few) (at .part .now) in (
       state .few,
@@ -76,8 +76,8 @@ returns-2 : tie.Need-returns-2
 returns-2 c =
     let ran = c .before .before .before .before .before .before .before .before .before in
     let verdict = test ran .before .before in
-    rw (c .told-in-place2 .ensures)
-    (part-ran _ _ _ _ _ (start verdict .pre) (none (test ran)) _ (ran .run-part .ensures) _ (c .before .before .moved-on .ensures))
+    rw (c .reported-in-place2 .ensures)
+    (part-run _ _ _ _ _ (start verdict .pre) (none (test ran)) _ (ran .run-part .ensures) _ (c .before .before .moved-on .ensures))
 
 pub open-part-spec : {M : Type 1} → statement M
 open-part-spec =

@@ -9,10 +9,10 @@ use Rattle.trace.proofs.feed.part_in_place.Tie as tie
 returns : tie.Need-returns
 returns c =
     let matched = c .before .before in
-    rw (c .told-in-place2 .ensures) (sym (chips-wrong _ _ _ _ _ (matched .enum-told .given .1) (c .before .if1 .taken)))
+    rw (c .reported-in-place2 .ensures) (sym (chips-wrong _ _ _ _ _ (matched .enum-told .given .1) (c .before .if1 .taken)))
 
 returns-2 : tie.Need-returns-2
-returns-2 c = rw (c .told-in-place .ensures) (sym (still-stopped _ _ _ _ _ _ _ (c .before .before .ending .given .1)))
+returns-2 c = rw (c .reported-in-place .ensures) (sym (still-stopped _ _ _ _ _ _ _ (c .before .before .ending .given .1)))
 
 returns-3 : tie.Need-returns-3
 returns-3 c =

@@ -5,10 +5,10 @@ use mathlib.Core.Path.{ap, _∙_}
 use mathlib.Core.List.{[]}
 use lib.ListN.{length, length-take, length-drop}
 use borrow.Author.Needs.{needs}
-use Rattle.trace.specs.declared.Ran.{Ran}
+use Rattle.trace.specs.declared.Tally.{Tally}
 use Rattle.trace.specs.Replay.{InPlace}
-use Rattle.trace.proofs.Bounds.{Few, ran-few}
-use Rattle.trace.proofs.OverRecords.{fits-behind, bytes-cut, bytes-both}
+use Rattle.trace.proofs.Bounds.{Few, tally-few}
+use Rattle.trace.proofs.OverBytes.{fits-behind, bytes-cut, bytes-both}
 use Rattle.trace.proofs.feed.run_both.Statement.{statement}
 use Rattle.trace.proofs.feed.run_both.Tie as tie
 
@@ -40,11 +40,11 @@ run-requires-2 c κs =
 
 -- the counts of both runs are few
 first-few : (c : tie.After-run) → let r = c .run .result in Few (length (start c .args .first .now) / 4) (r .place) (r .compared) (r .differing)
-first-few c = ran-few _ _ _ (ap (λ (i : InPlace Ran). i .answer) (c .run .ensures))
+first-few c = tally-few _ _ _ (ap (λ (i : InPlace Tally). i .answer) (c .run .ensures))
 
 next-few : (c : tie.After-run2) → let r = c .run2 .result in
     Few (length (start (ran (passed c .before)) .args .rest .now) / 4) (r .place) (r .compared) (r .differing)
-next-few c = ran-few _ _ _ (ap (λ (i : InPlace Ran). i .answer) (c .run2 .ensures))
+next-few c = tally-few _ _ _ (ap (λ (i : InPlace Tally). i .answer) (c .run2 .ensures))
 
 add-t23 : tie.Need-add-t23
 add-t23 c =

@@ -8,7 +8,7 @@ use borrow.Author.Needs.{needs}
 use Rattle.basics.proofs.Parts.{rest}
 use Rattle.panel.specs.Chips.{panelIn}
 use Rattle.trace.specs.Feed.{joinedTo}
-use Rattle.trace.specs.Replay.{endedBytes, overRecords}
+use Rattle.trace.specs.Replay.{endedBytes, overBytes}
 use Rattle.trace.proofs.InPlace.{kept}
 use Rattle.trace.proofs.KeptOver.{joined-length, kept-none, straddled, nothing-run}
 use Rattle.trace.proofs.feed.run_part.Statement.{statement}
@@ -39,7 +39,7 @@ returns-2 c =
     let few = joined-length (at .progress) (from .pre .1 .0) (at .part .now) in
     let bytes = joinedTo (at .progress) (at .part .now) in
     let none = nothing-run (panelIn (at .chips .now) (at .ram .now)) bytes (at .answers .now) (omega (arith, few)) in
-    rw (c .ran-nothing .ensures, none) (rw (kept (at .chips .now) (from .pre .0 .records)))
+    rw (c .nothing-run .ensures, none) (rw (kept (at .chips .now) (from .pre .0 .size)))
 
 run-both-requires : tie.Need-run-both-requires
 run-both-requires c κs =
@@ -64,7 +64,7 @@ returns-3 c =
     let kept = t .kept in
     let bytes-read = straddled t (from .pre .1 .0) (at .part .now) (omega arith) in
     ran .run-both .ensures
-    ∙ ap (λ (bytes : List ℕ). overRecords (at .chips .now) (endedBytes (panelIn (at .chips .now) (at .ram .now)) bytes (at .answers .now)))
+    ∙ ap (λ (bytes : List ℕ). overBytes (at .chips .now) (endedBytes (panelIn (at .chips .now) (at .ram .now)) bytes (at .answers .now)))
     (rw (
       read .byte-at4 .ensures,
       read .before .byte-at3 .ensures,

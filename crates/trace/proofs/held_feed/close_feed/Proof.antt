@@ -34,8 +34,8 @@ use denote.Triple.Walked.{says, Stays, stay-ref, walkOf, goes-ref, ends-at, walk
 use Rattle.trace.specs.Feed.{closeOf}
 use Rattle.trace.specs.declared.feed.Feed.{Feed}
 use Rattle.trace.specs.declared.feed.Fed.{Fed}
-use Rattle.trace.proofs.HeldFeed.{feedVal, ranVal, IsRan, its-ran, Borrowed, coded, ran-makes, feed-typed, opens-feed, puts-back}
-use Rattle.trace.proofs.Ran as R
+use Rattle.trace.proofs.HeldFeed.{feedVal, tallyVal, IsTally, its-tally, Borrowed, coded, tally-makes, feed-typed, opens-feed, puts-back}
+use Rattle.trace.proofs.Tally as R
 use Rattle.trace.proofs.feed.Feed as F
 use Rattle.trace.proofs.feed.Fed as G
 use Rattle.trace.proofs.feed.Feed.close as close
@@ -76,14 +76,14 @@ module _ {M : Type 1} (𝓤 : URA M) (H : Heap 𝓤) (A : Atoms 𝓤) (at-mem : 
     closed : (r : Fed) → ent 𝓤 (ensured 𝓤 H A close.ended (close.clauses 𝓤 H A at-mem run) tt (h, tt) tt r) (fact 𝓤 (r ≡ closeOf h))
     closed r = exE 𝓤 _ (λ ws. snd∗ 𝓤 (sem 𝓤 H A (lasts close.ended tt (h, tt) ws)) (fact 𝓤 (r ≡ closeOf h)))
 
-    exits : (r : Fed) → r ≡ closeOf h → IsRan (r .ran)
-        → ent 𝓤 (⋆ 𝓤 H A (‵ (fobs γ (coded (r .feed))) ∷ ‵ (fbor κ (Borrowed b o γ)) ∷ ‵ (flft κ q) ∷ [])) (Post (ranVal (r .ran)))
+    exits : (r : Fed) → r ≡ closeOf h → IsTally (r .tally)
+        → ent 𝓤 (⋆ 𝓤 H A (‵ (fobs γ (coded (r .feed))) ∷ ‵ (fbor κ (Borrowed b o γ)) ∷ ‵ (flft κ q) ∷ [])) (Post (tallyVal (r .tally)))
     exits r e is =
         qed W (‵ (fobs γ (coded (r .feed))) ∷ ‵ (fbor κ (Borrowed b o γ)) ∷ ‵ (flft κ q) ∷ []) ∵
         suffices ! _ (ends-at 𝓤 H A close-feed.ended stayed (close-feed.clauses 𝓤 H A at-mem run) W (((κ, tt), (q, tt), tt, x, at), tt)
-        (ranVal (r .ran)) (r .ran) (r .feed, tt) (tt, tt)) $ says ! e $ nothing ! $ move ! (3 ∷ 0 ∷ []) $ join ! $ frame ! $
+        (tallyVal (r .tally)) (r .tally) (r .feed, tt) (tt, tt)) $ says ! e $ nothing ! $ move ! (3 ∷ 0 ∷ []) $ join ! $ frame ! $
         feqI ! (List Val) (vptr b o ∷ []) (vptr b o ∷ []) refl $ fjoin3 ! $ nothing ! $ move ! (1 ∷ 0 ∷ []) $ fjoin ! $
-        owned ! R.the-row (Is R.the-row) (ran-makes 𝓤 H A) (r .ran) _ is $ move ! (1 ∷ 0 ∷ []) $ done !
+        owned ! R.the-row (Is R.the-row) (tally-makes 𝓤 H A) (r .tally) _ is $ move ! (1 ∷ 0 ∷ []) $ done !
 
     module _ (C : Calls 𝓤 H) (Λ : Loops 𝓤 H) (fm : FmC 𝓤 H (W .laws) C) (known : Triple 𝓤 (C #close) Close) where
       walk : ent 𝓤 (onEntry 𝓤 H A close-feed.signature (κ, tt) (q, tt) x at) (WpFn 𝓤 H C Λ code.function (vptr b o ∷ []) Post)
@@ -106,7 +106,7 @@ module _ {M : Type 1} (𝓤 : URA M) (H : Heap 𝓤) (A : Atoms 𝓤) (at-mem : 
           -- [obs; the borrow; the token; _0; _1; _3; …; _2; …; …; …]
           returns ! (look ! 3 refl) $ forget ! 3 refl $ forget ! 4 refl $ forget ! 5 refl $ forget ! 7 refl $
           move ! (3 ∷ 10 ∷ []) $ free1 ! $ move ! (3 ∷ 8 ∷ []) $ free1 ! $ move ! (5 ∷ 6 ∷ []) $ free1 ! $ move ! (3 ∷ 4 ∷ []) $ free1 ! $ free0 ! $
-          keep ! (0 ∷ 1 ∷ 2 ∷ []) $ by ! (exits r e (its-ran r w is)))))))))))
+          keep ! (0 ∷ 1 ∷ 2 ∷ []) $ by ! (exits r e (its-tally r w is)))))))))))
 
   meets : (𝓣 : Tables 𝓤 H) → Triple 𝓤 (𝓣 .C #close) Close
       → Meets 𝓤 H A close-feed.signature (WpFn 𝓤 H (𝓣 .C) (𝓣 .Λ) code.function) (close-feed.spec 𝓤 H A at-mem run)

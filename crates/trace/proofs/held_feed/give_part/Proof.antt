@@ -42,8 +42,8 @@ use denote.Exit.{yes}
 use Rattle.trace.specs.Feed.{partOutcome, partOf}
 use Rattle.trace.specs.declared.feed.Feed.{Feed}
 use Rattle.trace.specs.declared.feed.Fed.{Fed}
-use Rattle.trace.proofs.HeldFeed.{feedVal, ranVal, IsRan, its-ran, Borrowed, coded, ran-makes, feed-typed, opens-feed, puts-back}
-use Rattle.trace.proofs.Ran as R
+use Rattle.trace.proofs.HeldFeed.{feedVal, tallyVal, IsTally, its-tally, Borrowed, coded, tally-makes, feed-typed, opens-feed, puts-back}
+use Rattle.trace.proofs.Tally as R
 use Rattle.trace.proofs.feed.Feed as F
 use Rattle.trace.proofs.feed.Fed as G
 use Rattle.trace.proofs.feed.Feed.part as part
@@ -116,19 +116,20 @@ module _ {M : Type 1} (𝓤 : URA M) (H : Heap 𝓤) (A : Atoms 𝓤) (at-mem : 
     abbrev Ensured : Fed → List ℕ → List ℕ → Type 0
     Ensured r ys zs = partOutcome r ys zs ≡ partOf h (ram .now) (bs .now) (answers .now)
 
-    exits : (r : Fed) (ys zs : List ℕ) → Ensured r ys zs → length ys ≡ length (ram .now) → length zs ≡ length (answers .now) → IsRan (r .ran)
+    exits : (r : Fed) (ys zs : List ℕ) → Ensured r ys zs → length ys ≡ length (ram .now) → length zs ≡ length (answers .now) → IsTally (r .tally)
         → ent 𝓤 (⋆ 𝓤 H A (‵ (fobs γ (coded (r .feed))) ∷ ‵ (fbor κ (Borrowed b o γ)) ∷ ‵ (flft κ q) ∷ Tokens
-        ∷ ‵ (finally u8 (ram .name) ys) ∷ ‵ (finally u8 (answers .name) zs) ∷ [])) (Post (ranVal (r .ran)))
+        ∷ ‵ (finally u8 (ram .name) ys) ∷ ‵ (finally u8 (answers .name) zs) ∷ [])) (Post (tallyVal (r .tally)))
     exits r ys zs e l m is =
         qed W (‵ (fobs γ (coded (r .feed))) ∷ ‵ (fbor κ (Borrowed b o γ)) ∷ ‵ (flft κ q) ∷ Tokens
         ∷ ‵ (finally u8 (ram .name) ys) ∷ ‵ (finally u8 (answers .name) zs) ∷ []) ∵
         suffices ! _ (ends-at 𝓤 H A give-part.ended stayed (give-part.clauses 𝓤 H A at-mem run) W
-        (((κ, κs), (q, qs), tt, x, (vptr b o ∷ [], at)), tt) (ranVal (r .ran)) (r .ran) (r .feed, (ys, (tt, (zs, tt)))) (tt, (l, (tt, (m, tt))))) $
+        (((κ, κs), (q, qs), tt, x, (vptr b o ∷ [], at)), tt) (tallyVal (r .tally)) (r .tally) (r .feed, (ys, (tt, (zs, tt))))
+        (tt, (l, (tt, (m, tt))))) $
         says ! e $ move ! (2 ∷ 3 ∷ []) $ join ! $ frame ! $
         -- [obs; the borrow; the last bytes of ram; those of answers]
         nothing ! $ move ! (4 ∷ 0 ∷ []) $ fjoin ! $ nothing ! $ fjoin ! $ move ! (3 ∷ 0 ∷ []) $ fjoin ! $ move ! (1 ∷ 2 ∷ []) $
         feqI ! (List Val) (vptr b o ∷ []) (vptr b o ∷ []) refl $ fjoin3 ! $ fjoin ! $
-        owned ! R.the-row (Is R.the-row) (ran-makes 𝓤 H A) (r .ran) _ is $ move ! (1 ∷ 0 ∷ []) $ done !
+        owned ! R.the-row (Is R.the-row) (tally-makes 𝓤 H A) (r .tally) _ is $ move ! (1 ∷ 0 ∷ []) $ done !
 
     module _ (C : Calls 𝓤 H) (Λ : Loops 𝓤 H) (fm : FmC 𝓤 H (W .laws) C) (known : Triple 𝓤 (C #part) Part) where
       walk : Is (MutSlice (named 1) (κs .0) u8) ram (slice-vals ram) → Is (ShrSlice (named 2) (κs .1 .0) u8) bs (slice-vals bs)
@@ -180,7 +181,7 @@ module _ {M : Type 1} (𝓤 : URA M) (H : Heap 𝓤) (A : Atoms 𝓤) (at-mem : 
           move ! (3 ∷ 28 ∷ []) $ free1 ! $ move ! (3 ∷ 26 ∷ []) $ free1 ! $ move ! (23 ∷ 24 ∷ []) $ free1 ! $ move ! (21 ∷ 22 ∷ []) $ free1 ! $
           move ! (19 ∷ 20 ∷ []) $ free1 ! $ move ! (17 ∷ 18 ∷ []) $ free1 ! $ move ! (3 ∷ 16 ∷ []) $ free1 ! $ move ! (13 ∷ 14 ∷ []) $ free1 ! $
           move ! (11 ∷ 12 ∷ []) $ free1 ! $ move ! (9 ∷ 10 ∷ []) $ free1 ! $ move ! (7 ∷ 8 ∷ []) $ free1 ! $ free0 ! $
-          keep ! (0 ∷ 1 ∷ 2 ∷ 3 ∷ 6 ∷ 4 ∷ []) $ by ! (exits r (zs .1 .0) (zs .1 .1 .1 .0) e l m (its-ran r w is)))))))))))))))))))))
+          keep ! (0 ∷ 1 ∷ 2 ∷ 3 ∷ 6 ∷ 4 ∷ []) $ by ! (exits r (zs .1 .0) (zs .1 .1 .1 .0) e l m (its-tally r w is)))))))))))))))))))))
 
   meets : (𝓣 : Tables 𝓤 H) → Triple 𝓤 (𝓣 .C #part) Part
       → Meets 𝓤 H A give-part.signature (WpFn 𝓤 H (𝓣 .C) (𝓣 .Λ) code.function) (give-part.spec 𝓤 H A at-mem run)

@@ -25,7 +25,8 @@ counted c =
     let at = start .args in
     c .differing .ensures
     ∙ rw (c .before .segment-pixels2 .ensures, c .before .before .segment-pixels .ensures)
-    (segment-counted (at .before) (at .ram .now) (at .after) (at .ram .now) (start .pre .0) (start .pre .1) _ (c .before .before .before .loop-test .taken))
+    (segment-counted (at .before) (at .ram .now) (at .after) (at .ram .now) (start .pre .0) (start .pre .1) _
+    (c .before .before .before .loop-test .taken))
 
 loop-again : tie.Need-loop-again Inv-loop μ-loop
 loop-again c =

@@ -17,7 +17,7 @@ returns c =
     let at = start ran .args in
     seen (at .bus) (at .chip) (at .ram .now) _ (ran .cycle .ensures) _
     (same-sight (at .bus) (at .chip) (at .ram .now) _ (ran .cycle .ensures) (λ e. omega (arith, start ran .pre .1))
-    (registers-alike _ _ (sym (test .same-registers .ensures) ∙ c .if1 .taken)))
+    (registers-alike _ _ (sym (test .same-shown-registers .ensures) ∙ c .if1 .taken)))
 
 half-differing-requires : tie.Need-half-differing-requires
 half-differing-requires c κs =

@@ -3,14 +3,14 @@ use Prim.Native.Nat.{_-_}
 use native.Mathlib.Omega.{arith}
 use mathlib.Core.Path.{sym, _∙_}
 use borrow.Author.Needs.{needs}
-use Rattle.panel.specs.Panel.{panelOf}
-use Rattle.visible.proofs.Walking.{Upto, started, same-size, finished, whole-then, left-few, right-few, refused-here, accepted-here}
+use Rattle.panel.specs.Panel.{asPanel}
+use Rattle.visible.proofs.Walking.{WalkedTo, started, same-size, finished, whole-then, left-few, right-few, refused-here, accepted-here}
 use Rattle.visible.proofs.walk.walk.Statement.{statement}
 use Rattle.visible.proofs.walk.walk.Tie as tie
 
 abbrev Inv-loop : tie.InvT-loop
 Inv-loop ram₀ trace entries₀ count left₀ right₀ listed₀ at₀ ram entries now-left now-right listed at =
-    Upto (panelOf left₀ right₀ ram₀) trace entries₀ now-left now-right ram entries listed at
+    WalkedTo (asPanel left₀ right₀ ram₀) trace entries₀ now-left now-right ram entries listed at
 
 abbrev μ-loop : tie.MeasureT-loop
 μ-loop ram₀ trace entries₀ count left₀ right₀ listed₀ at₀ ram entries now-left now-right listed at = count - at

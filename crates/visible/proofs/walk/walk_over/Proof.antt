@@ -25,7 +25,8 @@ walk-requires c κs =
 returns : tie.Need-returns
 returns c =
     let ran = c .before .before .before in
-    ap (λ (w : Result Walked WalkLent). result (w .answer) (w .lent .entries)) (rw (copied (ran .before .before .before .before)) at (ran .walk .ensures))
+    ap (λ (w : Result Walked WalkLent). result (w .answer) (w .lent .entries))
+    (rw (copied (ran .before .before .before .before)) at (ran .walk .ensures))
 
 pub walk-over-spec : {M : Type 1} → statement M
 walk-over-spec =

@@ -8,15 +8,15 @@ use Rattle.sed1520.proofs.ActionCases.{known-command, no-command, comma
 use Rattle.sed1520.proofs.registers.Chip.command.Statement.{statement}
 use Rattle.sed1520.proofs.registers.Chip.command.Tie as tie
 
--- the byte is decoded to the command
+-- the byte is decoded as the command
 known : (c : tie.After-command) → decodeOf (c .before .before .before .args .byte) .value ≡ some (c .command .given .0 .0)
 known c = known-command _ _ _ (c .before .before .decode .ensures) (c .command .given .1)
 
 returns : tie.Need-returns
 unfolding commandWrite
 returns c =
-    let told = c .before in
-    rw (c .refused .ensures, no-command _ _ _ (told .before .before .decode .ensures) (told .enum-told .given .1))
+    let decoded = c .before in
+    rw (c .refused .ensures, no-command _ _ _ (decoded .before .before .decode .ensures) (decoded .enum-told .given .1))
 
 returns-2 : tie.Need-returns-2
 returns-2 c =

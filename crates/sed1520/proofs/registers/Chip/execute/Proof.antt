@@ -1,4 +1,4 @@
--- `sed1520::registers::Chip::execute` meets its contract: each arm is the case of `execute` for its kind.
+-- `sed1520::registers::Chip::execute` meets its contract: each arm is the case of `execute` for its opcode.
 use mathlib.Core.Path.{_∙_}
 use borrow.Author.Needs.{needs}
 use Rattle.sed1520.specs.Cycle.{execute}

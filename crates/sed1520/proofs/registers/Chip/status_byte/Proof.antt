@@ -1,10 +1,10 @@
 -- `sed1520::registers::Chip::status_byte` meets its contract, for each of its four bytes.
-use Rattle.sed1520.specs.Cycle.{statusOf}
+use Rattle.sed1520.specs.Cycle.{statusByte}
 use Rattle.sed1520.proofs.registers.Chip.status_byte.Statement.{statement}
 use Rattle.sed1520.proofs.registers.Chip.status_byte.Tie as tie
 
 pub status-byte-spec : {M : Type 1} → statement M
-unfolding statusOf
+unfolding statusByte
 status-byte-spec =
     tie.close
     (tie.spec

@@ -6,7 +6,7 @@ use Rattle.trace.proofs.feed.Feed.close.Tie as tie
 
 returns : tie.Need-returns
 unfolding closeOf
-returns c = rw (c .told .ensures, c .before .before .ending .given .1)
+returns c = rw (c .reported .ensures, c .before .before .ending .given .1)
 
 returns-2 : tie.Need-returns-2
 unfolding closeOf

@@ -2,7 +2,7 @@
 use native.Mathlib.Omega.{arith}
 use mathlib.Core.Path.{_≡_, sym}
 use borrow.Author.Needs.{needs}
-use Rattle.trace.specs.Feed.{begun, feedOf, stateVerdict}
+use Rattle.trace.specs.Feed.{begun, asFeed, stateVerdict}
 use Rattle.trace.specs.declared.progress.Ending.the-variants.{Open}
 use Rattle.trace.proofs.FeedCases.{state-place, state-line, state-passed, open-refused, open-done}
 use Rattle.trace.proofs.feed.Feed.open.Statement.{statement}
@@ -10,23 +10,23 @@ use Rattle.trace.proofs.feed.Feed.open.Tie as tie
 
 -- the test, of the chips with nothing taken yet
 tested : (c : tie.After-state-verdict) → let at = c .before .before .args in
-    c .state-verdict .result ≡ stateVerdict (feedOf (at .left) (at .right) (begun Open))
+    c .state-verdict .result ≡ stateVerdict (asFeed (at .left) (at .right) (begun Open))
 tested c = rw (c .before .begun .ensures) at (c .state-verdict .ensures)
 
 cast-t10 : tie.Need-cast-t10
 cast-t10 c =
     let e = tested (c .before .before .before) in
     let at = c .before .before .before .before .before .args in
-    record { fits = rw e (omega (arith, state-place (feedOf (at .left) (at .right) (begun Open)))) }
+    record { fits = rw e (omega (arith, state-place (asFeed (at .left) (at .right) (begun Open)))) }
 
 returns : tie.Need-returns
 returns c =
-    rw (c .told .ensures, c .before .begun2 .ensures)
+    rw (c .reported .ensures, c .before .begun2 .ensures)
     (sym (open-refused _ _ _ _ (state-line _ _ (tested (c .before .before .before .before .before)) (c .before .before .before .if1 .taken))))
 
 returns-2 : tie.Need-returns-2
 returns-2 c =
-    rw (c .told2 .ensures, c .before .before .before .before .begun .ensures)
+    rw (c .reported2 .ensures, c .before .before .before .before .begun .ensures)
     (sym (open-done _ _ (state-passed _ _ (tested (c .before .before .before)) (omega arith))))
 
 pub open-spec : {M : Type 1} → statement M

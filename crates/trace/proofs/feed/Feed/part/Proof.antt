@@ -1,10 +1,10 @@
--- `trace::feed::Feed::part` meets its contract: the part given over the records of both chips, read back.
+-- `trace::feed::Feed::part` meets its contract: the part given over the bytes of both chips, which are read back.
 use borrow.Author.Needs.{needs}
 use Rattle.trace.proofs.PartCases.{by-value}
 use Rattle.trace.proofs.feed.Feed.part.Statement.{statement}
 use Rattle.trace.proofs.feed.Feed.part.Tie as tie
 
--- the part, from past the chips read back; and the records written for it
+-- the part, from past the chips read back; and the chips' bytes written for it
 abbrev taken : tie.After-chips-in → tie.After-part-in-place
 taken c = c .before .before .before .before .before .before .before
 

@@ -12,7 +12,7 @@ use Rattle.trace.proofs.progress.Progress.moved_on.Tie as tie
 
 returns : tie.Need-returns
 unfolding movedOn
-returns c = rw (ne-eqb (c .before .before .before .before .before .before .before .before .before .args .ran .number) 0 (c .if1 .taken))
+returns c = rw (ne-eqb (c .before .before .before .before .before .before .before .before .before .args .tally .number) 0 (c .if1 .taken))
 
 returns-2 : tie.Need-returns-2
 unfolding movedOn
@@ -20,7 +20,7 @@ returns-2 c =
     let at = c .before .before .before .before .before .before .before .before .before .before .before .before .before .args in
     let t = at .self in
     let bytes = joinedTo t (at .part .now) in
-    rw (eq-eqb (at .ran .number) 0 (omega arith), c .before .before .byte-at .ensures, c .before .byte-at2 .ensures, c .byte-at3 .ensures)
+    rw (eq-eqb (at .tally .number) 0 (omega arith), c .before .before .byte-at .ensures, c .before .byte-at2 .ensures, c .byte-at3 .ensures)
     (sym (kept-over bytes (t .kept + length (at .part .now)) _ _ _ _ (joined-length t (omega arith) (at .part .now))))
 
 pub moved-on-spec : {M : Type 1} → statement M
