@@ -1,4 +1,4 @@
--- Numbers 1 and 2 of the calls that fill a buffer, from those of their callees.
+-- Numbers 1 and 2 of the calls that fill a buffer, from those of their callees; and the callee's answer where neither is given.
 use Prim.Native.Nat.{ℕ}
 use mathlib.Core.Path.{_≡_, refl, ap, sym, _∙_}
 use mathlib.Core.Bool.{Bool, true, false, not}
@@ -7,11 +7,12 @@ use mathlib.Core.Logic.{⊎-elim}
 use lib.Dec.{eqb}
 use lib.ListN.{length, take, drop}
 use borrow.Author.Tests.{eqb-true, eqb-false, not-true, not-false}
-use Rattle.basics.specs.Table.{First}
+use Rattle.basics.specs.Table.{First, NoneHolds}
 use Rattle.basics.specs.Verdict.{Result}
 use Rattle.sed1520.specs.Chip.{inRange}
 use Rattle.sed1520.specs.ChipBytes.{bytesPass}
 use Rattle.sed1520.specs.declared.registers.Chip.{Chip}
+use Rattle.panel.specs.Chips.{chipsIn}
 use Rattle.panel.specs.Panel.{asPanel}
 use Rattle.panel.proofs.TwoChips.{left-passes, right-passes}
 use Rattle.frame.specs.Frame.{framed}
@@ -44,6 +45,11 @@ module _ (wrong : Bool) (chips buffer : List ℕ) (call : Chip → Chip → Resu
       (sized .1))
       (past .1))
 
+-- a call that no line of its table refuses
+not-refused : (wrong : Bool) (chips buffer : List ℕ) (call : Chip → Chip → Result ℕ (List ℕ)) → NoneHolds (bytesTable wrong chips)
+    → onChips chips buffer call ≡ call (chipsIn chips .left) (chipsIn chips .right)
+not-refused wrong chips buffer call none = on-chips chips buffer call (eqb-true (length chips) 24 (not-false _ (none .0)))
+
 pub calls-refuse : CallsRefuse
 unfolding framed repaintOf changesOf
 calls-refuse =
@@ -57,4 +63,7 @@ calls-refuse =
       changes =
           λ chips ram trace buffer. refuses _ chips buffer (λ l r. packedFilled (changesOf (asPanel l r ram) trace buffer))
           (λ l r e. rw e) (λ l r s out. rw (s, out)) (λ l r s within out. rw (s, within, out));
+      frame-else = λ chips ram buffer. not-refused _ chips buffer (λ l r. packedFilled (framed (asPanel l r ram) buffer));
+      repaint-else = λ chips picture buffer. not-refused _ chips buffer (λ l r. packedFilled (repaintOf l r picture buffer));
+      changes-else = λ chips ram trace buffer. not-refused _ chips buffer (λ l r. packedFilled (changesOf (asPanel l r ram) trace buffer));
     }

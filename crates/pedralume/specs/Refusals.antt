@@ -1,17 +1,19 @@
--- Numbers 1 and 2 of the calls that fill a buffer, by document 01's table and the chips' bytes as they lie: the buffer stays as it came.
+-- Numbers 1 and 2 of the calls that fill a buffer, by document 01's table and the chips' bytes as they lie: the buffer stays as it came. And what
+-- these calls come to where neither is given.
 use Prim.Native.Nat.{ℕ}
 use mathlib.Core.Path.{_≡_}
 use mathlib.Core.Bool.{Bool, false, not}
 use mathlib.Core.List.{List, [], _∷_}
 use lib.Dec.{eqb}
 use lib.ListN.{length, take, drop}
-use Rattle.panel.specs.Chips.{chipsLength}
-use Rattle.basics.specs.Table.{Cause, cause, leftThenRight, First}
+use Rattle.panel.specs.Chips.{chipsLength, chipsIn, panelIn}
+use Rattle.basics.specs.Table.{Cause, cause, leftThenRight, First, NoneHolds}
 use Rattle.sed1520.specs.ChipBytes.{chipLength, bytesPass}
 use Rattle.panel.specs.Trace.{traceSizesWrong}
-use Rattle.frame.specs.Frame.{frameSizesWrong}
-use Rattle.repaint.specs.Repaint.{repaintSizesWrong}
-use Rattle.pedralume.specs.Call.{packedWith, frameCall, repaintCall, changesCall}
+use Rattle.frame.specs.Frame.{frameSizesWrong, framed}
+use Rattle.repaint.specs.Repaint.{repaintSizesWrong, repaintOf}
+use Rattle.visible.specs.Changes.{changesOf}
+use Rattle.pedralume.specs.Call.{packedWith, packedFilled, frameCall, repaintCall, changesCall}
 
 -- numbers 1 and 2 by the chips' bytes as they lie, and by whether a size of the call is wrong
 abbrev pub bytesTable : Bool → List ℕ → List Cause
@@ -19,7 +21,8 @@ bytesTable wrong chips =
     cause 1 0 (not (eqb (length chips) chipsLength)) ∷ cause 1 0 wrong
     ∷ leftThenRight 2 (not (bytesPass (take chipLength chips))) (not (bytesPass (drop chipLength chips))) []
 
--- the calls of the frame, of the repaint and of the list of changes give numbers 1 and 2 by their table, and the buffer stays as it came
+-- the calls of the frame, of the repaint and of the list of changes give numbers 1 and 2 by their table, and the buffer stays as it came; where no
+-- line of it holds, they come to what their callees come to on the chips that the bytes stand for (FrameNumbers, RepaintNumbers, ChangesNumbers)
 pub record CallsRefuse : Type 0 where
   pub frame : (chips ram buffer : List ℕ) (n at : ℕ) → First (bytesTable (frameSizesWrong (length ram) (length buffer)) chips) n at
       → frameCall chips ram buffer ≡ packedWith buffer n at
@@ -27,3 +30,9 @@ pub record CallsRefuse : Type 0 where
       → repaintCall chips picture buffer ≡ packedWith buffer n at
   pub changes : (chips ram trace buffer : List ℕ) (n at : ℕ) → First (bytesTable (traceSizesWrong (length trace) (length ram) false) chips) n at
       → changesCall chips ram trace buffer ≡ packedWith buffer n at
+  pub frame-else : (chips ram buffer : List ℕ) → NoneHolds (bytesTable (frameSizesWrong (length ram) (length buffer)) chips)
+      → frameCall chips ram buffer ≡ packedFilled (framed (panelIn chips ram) buffer)
+  pub repaint-else : (chips picture buffer : List ℕ) → NoneHolds (bytesTable (repaintSizesWrong (length picture) (length buffer)) chips)
+      → repaintCall chips picture buffer ≡ packedFilled (repaintOf (chipsIn chips .left) (chipsIn chips .right) picture buffer)
+  pub changes-else : (chips ram trace buffer : List ℕ) → NoneHolds (bytesTable (traceSizesWrong (length trace) (length ram) false) chips)
+      → changesCall chips ram trace buffer ≡ packedFilled (changesOf (panelIn chips ram) trace buffer)
