@@ -123,7 +123,7 @@
  * picture's and the right half as before; after the 254th all is the picture's, with rows 16 to 31
  * dark. A repaint may be given up after any record: a new one, called with the chips as they are then
  * and sent whole, ends at its own picture. Given up just after the 253rd, the panel stays half new
- * until then.
+ * until the last two records of a later one.
  *
  *
  * FEED BYTES, 48: a replay in parts
