@@ -17,14 +17,9 @@ pub record Ranges (c : Chip) : Type 0 where
   pub saved : c .«saved_column» ≤ columnStop
   pub idle : (c .modify || eqb (c .«saved_column») 0) ≡ true
 
--- with the four numbers in range, what is left is the saved column's rule
-pub in-range-rest : (c : Chip) → c .page < 4 → c .«start_line» < 32 → c .column ≤ columnStop → c .«saved_column» ≤ columnStop
-    → inRange c ≡ (c .modify || eqb (c .«saved_column») 0)
-unfolding inRange
-in-range-rest c p l k s = simp (lt-ltb, le-leb)
-
 pub in-range : (c : Chip) → Ranges c → inRange c ≡ true
-in-range c r = rw (in-range-rest c (r .page) (r .line) (r .column) (r .saved)) (r .idle)
+unfolding inRange
+in-range c r = rw (lt-ltb _ _ (r .page), lt-ltb _ _ (r .line), le-leb _ _ (r .column), le-leb _ _ (r .saved)) (r .idle)
 
 pub ranges : (c : Chip) → inRange c ≡ true → Ranges c
 unfolding inRange

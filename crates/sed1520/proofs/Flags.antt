@@ -1,14 +1,13 @@
--- The flags, the latch's mark and the last byte of a chip's bytes: what follows from their test, and what decides it.
-use Prim.Native.Nat.{ℕ, _<_, _≤_}
-use native.Mathlib.Omega.{arith}
+-- The flags, the latch's mark and the last byte of a chip's bytes: what follows from their test.
+use Prim.Native.Nat.{ℕ, _<_}
 use mathlib.Core.Path.{_≡_}
 use mathlib.Core.Bool.{Bool, true, false, _||_, false≢true}
 use mathlib.Core.List.{List, [], _∷_}
 use mathlib.Core.Logic.{⊎-elim}
 use lib.Dec.{ltb, eqb}
 use lib.ListN.{getD}
-use borrow.Author.Tests.{lt-ltb, ltb-true, eqb-true}
-use Rattle.basics.proofs.Tests.{tested, both, either}
+use borrow.Author.Tests.{ltb-true, eqb-true}
+use Rattle.basics.proofs.Tests.{both, either}
 use Rattle.sed1520.specs.ChipBytes.{flagPlaces, flagsAt, flagsRight}
 
 -- whether a place is among those listed
@@ -27,19 +26,10 @@ module _ (b : List ℕ) where
       (λ later. flag-below ps place later (each .1))
       (either (eqb place p) _ is)
 
-  module _ (place : ℕ) (is : listed flagPlaces place ≡ true) where
-    pub flag-right : flagsRight b ≡ true → getD b place 0 < 2
-    unfolding flagsRight
-    flag-right e = flag-below flagPlaces place is (both (flagsAt flagPlaces b) _ e .0)
-
-    pub flag-wrong : 2 ≤ getD b place 0 → flagsRight b ≡ false
-    flag-wrong h = ⊎-elim (λ e. let low = flag-right e in absurd (omega arith)) (λ e. e) (tested (flagsRight b))
+  pub flag-right : (place : ℕ) → listed flagPlaces place ≡ true → flagsRight b ≡ true → getD b place 0 < 2
+  unfolding flagsRight
+  flag-right place is e = flag-below flagPlaces place is (both (flagsAt flagPlaces b) _ e .0)
 
   pub last-right : flagsRight b ≡ true → getD b 11 0 ≡ 0
   unfolding flagsRight
   last-right e = eqb-true (getD b 11 0) 0 (both (flagsAt flagPlaces b) _ e .1)
-
-  pub last-decides : getD b 0 0 < 2 → getD b 1 0 < 2 → getD b 2 0 < 2 → getD b 3 0 < 2 → getD b 4 0 < 2 → getD b 9 0 < 2
-      → flagsRight b ≡ eqb (getD b 11 0) 0
-  unfolding flagsRight flagsAt
-  last-decides h0 h1 h2 h3 h4 h9 = simp lt-ltb

@@ -1,7 +1,7 @@
 // A chip as 12 bytes, both ways.
 ghost use mathlib.Core.Path.{_≡_};
 ghost use lib.ListN.{length};
-ghost use Rattle.sed1520.specs.ChipBytes.{chipLength, bit, mark, asLatch, registersIn, flagsRight, noChip, chipIn, chipOut};
+ghost use Rattle.sed1520.specs.ChipBytes.{chipLength, bit, mark, asLatch, registersIn, flagsRight, bytesPass, noChip, chipIn, chipOut};
 use crate::registers::Chip;
 use crate::registers::ReadLatch;
 
@@ -61,25 +61,23 @@ fn flags_right(bytes: &[u8]) -> bool
     requires { ⌜ length (now bytes) ≡ chipLength ⌝ }
     ensures { λ r. ⌜ r ≡ flagsRight (now (bytes .entry)) ⌝ }
 {
-    if 2 <= bytes[0] {
+    (bytes[0] < 2)
+        & (bytes[1] < 2)
+        & (bytes[2] < 2)
+        & (bytes[3] < 2)
+        & (bytes[4] < 2)
+        & (bytes[9] < 2)
+        & (bytes[11] == 0)
+}
+
+// Whether number 2 lets these bytes of a chip pass.
+pub fn bytes_pass(bytes: &[u8]) -> bool
+    ensures { λ r. ⌜ r ≡ bytesPass (now (bytes .entry)) ⌝ }
+{
+    if bytes.len() != CHIP_BYTES {
         return false;
     }
-    if 2 <= bytes[1] {
-        return false;
-    }
-    if 2 <= bytes[2] {
-        return false;
-    }
-    if 2 <= bytes[3] {
-        return false;
-    }
-    if 2 <= bytes[4] {
-        return false;
-    }
-    if 2 <= bytes[9] {
-        return false;
-    }
-    bytes[11] == 0
+    flags_right(bytes) & registers_in(bytes).in_range()
 }
 
 // A chip that number 2 does not let pass.

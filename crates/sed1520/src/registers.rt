@@ -91,22 +91,11 @@ impl Chip {
     pub fn in_range(self) -> bool
         ensures { λ r. ⌜ r ≡ inRange self ⌝ }
     {
-        if 4 <= self.page {
-            return false;
-        }
-        if 32 <= self.start_line {
-            return false;
-        }
-        if Chip::COLUMN_STOP < self.column {
-            return false;
-        }
-        if Chip::COLUMN_STOP < self.saved_column {
-            return false;
-        }
-        if self.modify {
-            return true;
-        }
-        self.saved_column == 0
+        (self.page < 4)
+            & (self.start_line < 32)
+            & (self.column <= Chip::COLUMN_STOP)
+            & (self.saved_column <= Chip::COLUMN_STOP)
+            & (self.modify | (self.saved_column == 0))
     }
 
     // The read latch written, all else as it was.

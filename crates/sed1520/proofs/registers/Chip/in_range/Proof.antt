@@ -1,17 +1,12 @@
--- `sed1520::registers::Chip::in_range` meets its contract: at each `return` the tests that led there decide those of `inRange`.
-use native.Mathlib.Omega.{arith}
-use mathlib.Core.Path.{sym, _∙_}
-use Rattle.sed1520.proofs.ChipRange.{in-range-rest, out-of-range}
+-- `sed1520::registers::Chip::in_range` meets its contract: the tests are those of `inRange`, bracketed the other way.
+use mathlib.Core.Bool.{and-assoc}
+use Rattle.sed1520.specs.Chip.{inRange}
 use Rattle.sed1520.proofs.registers.Chip.in_range.Statement.{statement}
 use Rattle.sed1520.proofs.registers.Chip.in_range.Tie as tie
 
+returns : tie.Need-returns
+unfolding inRange
+returns c = simp and-assoc
+
 pub in-range-spec : {M : Type 1} → statement M
-in-range-spec =
-    tie.close
-    (tie.spec
-    (λ c. sym (out-of-range _ (λ r. omega arith)))
-    (λ c. sym (out-of-range _ (λ r. omega arith)))
-    (λ c. sym (out-of-range _ (λ r. omega arith)))
-    (λ c. sym (out-of-range _ (λ r. omega arith)))
-    (λ c. sym (in-range-rest _ (omega arith) (omega arith) (omega arith) (omega arith) ∙ rw (c .if5 .taken)))
-    (λ c. sym (in-range-rest _ (omega arith) (omega arith) (omega arith) (omega arith) ∙ rw (c .before .if5 .left))))
+in-range-spec = tie.close (tie.spec returns)
