@@ -3,12 +3,10 @@ ghost use mathlib.Core.List.{[]};
 ghost use mathlib.Core.Path.{_≡_};
 ghost use Rattle.basics.specs.Table.{verdictBy};
 ghost use Rattle.basics.specs.Verdict.{verdict};
-ghost use Rattle.sed1520.specs.Chip.{outOfRange};
 ghost use Rattle.panel.specs.Trace.{traceSizesWrong, traceTable};
 use crate::chips::IMAGE_BYTES;
 use basics::verdict::Verdict;
 use sed1520::bus::RECORD_BYTES;
-use sed1520::registers::Chip;
 
 // The most bytes that a trace, or a part of a feed, may have.
 pub const TRACE_BYTES: usize = 65536;
@@ -27,16 +25,16 @@ pub fn sizes_wrong(bytes: usize, ram: usize, more: bool) -> bool
 }
 
 // Numbers 1 to 3, lowest first, or 0: a size that is wrong, a chip out of range, a trace that ends within a record.
-pub fn trace_verdict(wrong: bool, left: Chip, right: Chip, bytes: usize) -> Verdict
-    ensures { λ r. ⌜ r ≡ verdictBy (traceTable wrong (outOfRange left) (outOfRange right) bytes []) (verdict 0 0) ⌝ }
+pub fn trace_verdict(wrong: bool, left_out: bool, right_out: bool, bytes: usize) -> Verdict
+    ensures { λ r. ⌜ r ≡ verdictBy (traceTable wrong «left_out» «right_out» bytes []) (verdict 0 0) ⌝ }
 {
     if wrong {
         return Verdict::new(1, 0);
     }
-    if !left.in_range() {
+    if left_out {
         return Verdict::new(2, 0);
     }
-    if !right.in_range() {
+    if right_out {
         return Verdict::new(2, 1);
     }
     if bytes % RECORD_BYTES != 0 {

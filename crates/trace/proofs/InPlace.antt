@@ -12,11 +12,11 @@ use Rattle.basics.specs.Verdict.{verdict}
 use Rattle.basics.specs.declared.verdict.Verdict.{Verdict}
 use Rattle.basics.proofs.Table.{first-refuses, none-refuses, each-line, table-as, exactly-when, refusing-line, passing-table}
 use Rattle.basics.proofs.Tests.{both, when}
-use Rattle.sed1520.specs.Chip.{inRange, outOfRange}
+use Rattle.sed1520.specs.Chip.{inRange}
 use Rattle.sed1520.specs.ChipBytes.{bytesPass, chipIn}
 use Rattle.sed1520.specs.declared.registers.Chip.{Chip}
 use Rattle.sed1520.proofs.ChipBytesUndo.{passes}
-use Rattle.panel.specs.Chips.{chipsBytes, asChips, chipsIn, panelIn, BothPass}
+use Rattle.panel.specs.Chips.{chipsBytes, chipsIn, panelIn, BothPass}
 use Rattle.panel.specs.Panel.{Panel, asPanel}
 use Rattle.panel.specs.declared.chips.Chips.{Chips}
 use Rattle.panel.proofs.TwoChips.{two-chips, left-passes, right-passes, two-length, two-there, two-back, two-pass}
@@ -63,7 +63,7 @@ module _ (chips ram trace answers : List ℕ) where
 
   -- on 24 bytes it is the replay on the panel that is read from them, written back
   module _ (h : length chips ≡ 24) where
-    pub same-lines : lines ≡ table (panelIn chips ram) trace answers
+    same-lines : lines ≡ table (panelIn chips ram) trace answers
     same-lines = rw (left-passes chips h _ refl, right-passes chips h _ refl)
 
     on-panel : replayInPlace chips ram trace answers ≡ overBytes chips (replayOf (panelIn chips ram) trace answers)
@@ -79,16 +79,13 @@ module _ (chips ram trace answers : List ℕ) where
         {refuse = λ n at. refusedAt n at (panelIn chips ram) answers} {refused = refuse} (λ n at. rw (kept chips h)) refl)
 
   -- code that computes the verdict of these lines first
-  module _ (v : Verdict) (h : length chips ≡ 24) (e : v ≡ verdictBy (table (panelIn chips ram) trace answers) (verdict 0 0)) where
-    by-lines : v ≡ verdictBy lines (verdict 0 0)
-    by-lines = e ∙ ap (λ (t : List Cause). verdictBy t (verdict 0 0)) (sym (same-lines h))
-
-    pub verdict-refused : (v .number ≡ 0 → ⊥) → replayInPlace chips ram trace answers ≡ inPlace (nothingRun (v .number) (v .place)) chips ram answers
-    verdict-refused nonzero = bytes-refused (v .number) (v .place)
-        (inr (ap not (eq-eqb (length chips) 24 h), refusing-line lines v 0 by-lines nonzero))
+  module _ (v : Verdict) (e : v ≡ verdictBy lines (verdict 0 0)) where
+    pub verdict-refused : length chips ≡ 24 → (v .number ≡ 0 → ⊥)
+        → replayInPlace chips ram trace answers ≡ inPlace (nothingRun (v .number) (v .place)) chips ram answers
+    verdict-refused h nonzero = bytes-refused (v .number) (v .place) (inr (ap not (eq-eqb (length chips) 24 h), refusing-line lines v 0 e nonzero))
 
     pub verdict-passed : v .number ≡ 0 → NoneHolds lines
-    verdict-passed = passing-table lines v 0 by-lines (λ z. omega arith, (λ z. omega arith, (λ z. omega arith, (λ z. omega arith, tt))))
+    verdict-passed = passing-table lines v 0 e (λ z. omega arith, (λ z. omega arith, (λ z. omega arith, (λ z. omega arith, tt))))
 
   -- bytes that no line refuses
   pub lines-fit : length chips ≡ 24 → NoneHolds lines → BothPass chips ram

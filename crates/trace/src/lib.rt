@@ -22,6 +22,8 @@ use panel::step::step_of_tested_chips;
 use panel::trace::trace_verdict;
 use sed1520::bus::RECORD_BYTES;
 use sed1520::bus::Record;
+use sed1520::chip_bytes::CHIP_BYTES;
+use sed1520::chip_bytes::bytes_pass;
 use sed1520::registers::Chip;
 
 // The bytes of a record's answer.
@@ -135,10 +137,9 @@ pub fn replay_in_place(chips: &mut [u8], ram: &mut [u8], trace: &[u8], answers: 
         ram.len(),
         answers.len(),
     );
-    let both = chips_in(chips);
-    let left = both.left;
-    let right = both.right;
-    let verdict = trace_verdict(wrong, left, right, trace.len());
+    let left_out = !bytes_pass(&chips[..CHIP_BYTES]);
+    let right_out = !bytes_pass(&chips[CHIP_BYTES..]);
+    let verdict = trace_verdict(wrong, left_out, right_out, trace.len());
     if verdict.number != 0 {
         return nothing_run(verdict.number, verdict.place);
     }

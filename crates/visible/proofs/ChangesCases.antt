@@ -2,7 +2,7 @@
 use Prim.Native.Nat.{ℕ, _*_, _/_, _<_, _≤_}
 use native.Mathlib.Omega.{arith}
 use mathlib.Core.Path.{_≡_, refl, sym, ap, _∙_}
-use mathlib.Core.Bool.{Bool, false, not}
+use mathlib.Core.Bool.{false, not}
 use mathlib.Core.List.{List, [], _∷_, _++_, flatMap}
 use mathlib.Core.Logic.{inl, inr}
 use lib.Dec.{eqb, ltb}
@@ -49,14 +49,9 @@ module _ (p : Panel) (trace : List ℕ) where
   abbrev entries : List Entry
   entries = allEntries p (wholeRecords trace)
 
-  -- the lines of numbers 1 to 3, and their verdict out of the test of sizes
+  -- the lines of numbers 1 to 3
   abbrev pub early : List Cause
   early = traceTable (traceSizesWrong (length trace) (length (p .ram)) false) (outOfRange (p .left)) (outOfRange (p .right)) (length trace) []
-
-  pub by-sizes : {wrong : Bool} {v : Verdict} → wrong ≡ traceSizesWrong (length trace) (length (p .ram)) false
-      → v ≡ verdictBy (traceTable wrong (outOfRange (p .left)) (outOfRange (p .right)) (length trace) []) (verdict 0 0)
-      → v ≡ verdictBy early (verdict 0 0)
-  by-sizes sizes e = e ∙ rw sizes
 
   pub trace-passed : (v : Verdict) → v ≡ verdictBy early (verdict 0 0) → v .number ≡ 0 → NoneHolds early
   trace-passed v e zero = passing-table early v 0 e (search needs) zero

@@ -22,7 +22,7 @@ pub fn changes(left: Chip, right: Chip, ram: &[u8], trace: &[u8], entries: &mut 
         ≡ changesOf (asPanel left right (now (ram .entry))) (now (trace .entry)) (now (entries .entry)) ⌝ }
 {
     let wrong = sizes_wrong(trace.len(), ram.len(), false);
-    let verdict = trace_verdict(wrong, left, right, trace.len());
+    let verdict = trace_verdict(wrong, !left.in_range(), !right.in_range(), trace.len());
     if verdict.number != 0 {
         return verdict;
     }

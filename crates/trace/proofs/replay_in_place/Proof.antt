@@ -2,12 +2,13 @@
 use native.Mathlib.Omega.{arith}
 use mathlib.Core.Path.{_≡_, sym, _∙_}
 use lib.ListN.{length}
+use lib.Seq.{length-take-le}
 use borrow.Author.Needs.{needs}
 use Rattle.basics.specs.Table.{NoneHolds, verdictBy}
 use Rattle.basics.specs.Verdict.{verdict}
-use Rattle.panel.specs.Chips.{panelIn}
+use Rattle.basics.proofs.Parts.{rest}
 use Rattle.trace.proofs.InPlace.{chips-refused, lines, verdict-refused, verdict-passed, lines-fit, lines-passed}
-use Rattle.trace.proofs.ReplayNumbers.{table, sizes-right}
+use Rattle.trace.proofs.ReplayNumbers.{sizes-right}
 use Rattle.trace.proofs.replay_in_place.Statement.{statement}
 use Rattle.trace.proofs.replay_in_place.Tie as tie
 
@@ -20,11 +21,15 @@ whole c = omega arith
 
 -- the test of the sizes, from past the verdict; and that verdict
 abbrev sized : tie.After-trace-verdict → tie.After-sizes-wrong
-sized c = c .before .before .before .before .before
+sized c = c .before .before .before .before .before .before
 
 given : (c : tie.After-trace-verdict) → let at = start (sized c .before) .args in
-    c .trace-verdict .result ≡ verdictBy (table (panelIn (at .chips .now) (at .ram .now)) (at .trace .now) (at .answers .now)) (verdict 0 0)
-given c = rw (c .before .before .before .chips-in .ensures, sized c .sizes-wrong .ensures) at (c .trace-verdict .ensures)
+    c .trace-verdict .result ≡ verdictBy (lines (at .chips .now) (at .ram .now) (at .trace .now) (at .answers .now)) (verdict 0 0)
+given c =
+    let right = c .before in
+    let left = right .before .before .before in
+    let behind = rest (start (sized c .before) .args .chips .now) 12 in
+    rw (← sized c .sizes-wrong .ensures, ← left .bytes-pass .ensures, ← behind, ← right .bytes-pass2 .ensures) (c .trace-verdict .ensures)
 
 abbrev tested : tie.Else2 → tie.After-trace-verdict
 tested c = c .before .before
@@ -33,8 +38,7 @@ passed : (c : tie.Else2) → let at = start (sized (tested c) .before) .args in
     NoneHolds (lines (at .chips .now) (at .ram .now) (at .trace .now) (at .answers .now))
 passed c =
     let at = start (sized (tested c) .before) .args in
-    verdict-passed (at .chips .now) (at .ram .now) (at .trace .now) (at .answers .now) _ (whole (sized (tested c) .before)) (given (tested c))
-    (omega arith)
+    verdict-passed (at .chips .now) (at .ram .now) (at .trace .now) (at .answers .now) _ (given (tested c)) (omega arith)
 
 returns : tie.Need-returns
 returns c = rw (c .nothing-run .ensures) (sym (chips-refused _ _ _ _ (c .before .if1 .taken)))
@@ -42,7 +46,7 @@ returns c = rw (c .nothing-run .ensures) (sym (chips-refused _ _ _ _ (c .before 
 returns-2 : tie.Need-returns-2
 returns-2 c =
     let test = c .before .before .before in
-    rw (c .nothing-run2 .ensures) (sym (verdict-refused _ _ _ _ _ (whole (sized test .before)) (given test) (c .before .if2 .taken)))
+    rw (c .nothing-run2 .ensures) (sym (verdict-refused _ _ _ _ _ (given test) (whole (sized test .before)) (c .before .if2 .taken)))
 
 run-requires : tie.Need-run-requires
 run-requires c κs =
@@ -67,6 +71,12 @@ replay-in-place-spec =
     (λ c κs. search needs)
     returns
     (λ c κs. search needs)
+    (λ c. search needs)
+    (λ c. sym (length-take-le 12 (start (c .before .before) .args .chips .now) (omega arith)))
+    (λ c κs. search needs)
+    (λ c. search needs)
+    (λ c. search needs)
+    (λ c. search needs)
     (λ c κs. search needs)
     (λ c κs. search needs)
     (λ c κs. search needs)

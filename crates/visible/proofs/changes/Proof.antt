@@ -10,7 +10,7 @@ use Rattle.basics.specs.Verdict.{verdict, Result, result}
 use Rattle.panel.specs.Panel.{Panel, asPanel, Whole}
 use Rattle.visible.specs.Sight.{entriesRan, walkedOf, walkOver}
 use Rattle.visible.specs.declared.walk.Walked.{Walked}
-use Rattle.visible.proofs.ChangesCases.{nothing-put, early, by-sizes, trace-refused, trace-passed, passes-whole, record-refused}
+use Rattle.visible.proofs.ChangesCases.{nothing-put, early, trace-refused, trace-passed, passes-whole, record-refused}
 use Rattle.visible.proofs.ChangesCases.{short, all-listed}
 use Rattle.visible.proofs.Listings.{same-room}
 use Rattle.visible.proofs.changes.Statement.{statement}
@@ -18,14 +18,17 @@ use Rattle.visible.proofs.changes.Tie as tie
 
 -- the start, from past the verdict on the trace
 abbrev start : tie.After-trace-verdict → tie.Start
-start c = c .before .before .before .before .before
+start c = c .before .before .before .before .before .before .before
 
 -- the panel that the records run on; and that verdict
 abbrev panel : tie.Start → Panel
 panel c = asPanel (c .args .left) (c .args .right) (c .args .ram .now)
 
 by-table : (c : tie.After-trace-verdict) → c .trace-verdict .result ≡ verdictBy (early (panel (start c)) (start c .args .trace .now)) (verdict 0 0)
-by-table c = by-sizes (panel (start c)) (start c .args .trace .now) (c .before .sizes-wrong .ensures) (c .trace-verdict .ensures)
+by-table c =
+    let right = c .before in
+    let left = right .before in
+    rw (← left .before .sizes-wrong .ensures, ← left .in-range .ensures, ← right .in-range2 .ensures) (c .trace-verdict .ensures)
 
 returns : tie.Need-returns
 returns c = trace-refused _ _ _ _ (by-table (c .before .before)) (c .if1 .taken)
@@ -89,6 +92,8 @@ pub changes-spec : {M : Type 1} → statement M
 changes-spec =
     tie.close
     (tie.spec
+    (λ c κs. search needs)
+    (λ c κs. search needs)
     (λ c κs. search needs)
     (λ c κs. search needs)
     returns
