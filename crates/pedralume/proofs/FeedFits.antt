@@ -22,7 +22,7 @@ use Rattle.trace.specs.declared.progress.Progress.{Progress}
 use Rattle.trace.specs.declared.feed.Feed.{Feed}
 use Rattle.trace.specs.declared.feed.Fed.{Fed}
 use Rattle.trace.proofs.Bounds.{tally-few}
-use Rattle.trace.proofs.FeedCases.{PartRight, part-right, state-two, state-low, by-ending}
+use Rattle.trace.proofs.FeedCases.{ofFeed, PartRight, part-right, state-two, state-low, by-ending}
 use Rattle.trace.proofs.KeptOver.{joined-length, cut-off-length}
 use Rattle.trace.proofs.RunNumbers.{run-number, low-number}
 use Rattle.pedralume.specs.FeedBytes.{numberByte, stopPlace}
@@ -83,7 +83,7 @@ module _ (f : Feed) (fits : Fits (f .progress)) where
       let bytes = joinedTo t part in
       let o = endedBytes (asPanel (f .left) (f .right) ram) bytes answers in
       by-ending PartFits (t .ending) (λ n at e. fits)
-      (λ _. each-line (notTaken f ram answers) (tookPart f bytes o) PartFits (partTable f (length ram) (length part) (length answers))
+      (λ _. each-line (notTaken f ram answers) (tookPart f bytes o) PartFits (ofFeed partTable f (length ram) (length part) (length answers))
       (λ n at _. fits)
       (λ none. let right = part-right f (length ram) (length part) (length answers) none in
       let few = tally-few (asPanel (f .left) (f .right) ram) bytes answers refl in
@@ -100,7 +100,7 @@ module _ (f : Feed) (fits : Fits (f .progress)) where
   unfolding closeOf openClose
   close-fits =
       by-ending FedFits (f .progress .ending) (λ n at e. fits)
-      (λ _. each-line (fedWith f) (stoppedWith f (if (eqb (f .progress .kept) 0) 0 3)) FedFits (feedTable f) (λ n at _. fits)
+      (λ _. each-line (fedWith f) (stoppedWith f (if (eqb (f .progress .kept) 0) 0 3)) FedFits (ofFeed feedTable f) (λ n at _. fits)
       (λ _. stopped-fits (when (λ (n : ℕ). n < 256) (eqb (f .progress .kept) 0) (λ _. omega arith) (λ _. omega arith))))
     where
       stopped-fits : {n : ℕ} → n < 256 → FedFits (stoppedWith f n)
@@ -125,6 +125,6 @@ pub open-fits : (left right : Chip) → FedFits (openOf left right)
 unfolding openOf
 open-fits left right =
     let f = asFeed left right (begun Open) in
-    each-line (λ n at. fedWith (asFeed left right (begun (Stopped n at))) n at) (fedWith f 0 0) FedFits (feedTable f)
+    each-line (λ n at. fedWith (asFeed left right (begun (Stopped n at))) n at) (fedWith f 0 0) FedFits (ofFeed feedTable f)
     (λ n at first. begun-fits (Stopped n at) (omega (arith, state-two f n at first)) (omega (arith, state-low f n at first)))
     (λ _. begun-fits Open (omega arith) (omega arith))

@@ -24,7 +24,7 @@ use Rattle.trace.specs.declared.progress.Progress.{Progress}
 use Rattle.trace.specs.declared.feed.Feed.{Feed}
 use Rattle.trace.specs.declared.feed.Fed.{Fed}
 use Rattle.trace.specs.declared.feed.FedInPlace.{FedInPlace}
-use Rattle.trace.proofs.FeedCases.{part-right, by-ending}
+use Rattle.trace.proofs.FeedCases.{ofFeed, part-right, by-ending}
 use Rattle.trace.proofs.PartCases.{on-bytes, by-value}
 use Rattle.trace.proofs.RunNumbers.{own-number}
 use Rattle.pedralume.specs.FeedBytes.{progressBytes, feedBytes, progressIn}
@@ -49,7 +49,7 @@ module _ (f : Feed) where
       let ran = endedBytes (asPanel (f .left) (f .right) ram) bytes answers in
       by-ending (λ (o : PartOutcome). Kept (fedBy o)) (f .progress .ending) (λ n at e _. refl)
       (λ e. each-line (notTaken f ram answers) (tookPart f bytes ran) (λ (o : PartOutcome). Kept (fedBy o))
-      (partTable f (length ram) (length part) (length answers)) (λ n at _ _. refl)
+      (ofFeed partTable f (length ram) (length part) (length answers)) (λ n at _ _. refl)
       (λ none s. let right = part-right f (length ram) (length part) (length answers) none in
       absurd (true≢false (sym (rw e at s) ∙ own-number (ran .answer .number) (part-number f ram part answers right)))))
 
@@ -57,7 +57,7 @@ module _ (f : Feed) where
   unfolding closeOf openClose
   close-kept =
       by-ending Kept (f .progress .ending) (λ n at e _. refl)
-      (λ e. each-line (fedWith f) (stoppedWith f (if (eqb (f .progress .kept) 0) 0 3)) Kept (feedTable f) (λ n at _ _. refl)
+      (λ e. each-line (fedWith f) (stoppedWith f (if (eqb (f .progress .kept) 0) 0 3)) Kept (ofFeed feedTable f) (λ n at _ _. refl)
       (λ _ s. absurd (true≢false (sym (rw e at s) ∙ when (λ (n : ℕ). stays Open n ≡ false) (eqb (f .progress .kept) 0) (λ _. refl) (λ _. refl)))))
 
 -- a close leaves the chips as they came
@@ -68,7 +68,7 @@ close-chips : (f : Feed) → SameChips f (closeOf f)
 unfolding closeOf openClose
 close-chips f =
     by-ending (SameChips f) (f .progress .ending) (λ n at e. refl)
-    (λ e. each-line (fedWith f) (stoppedWith f (if (eqb (f .progress .kept) 0) 0 3)) (SameChips f) (feedTable f) (λ n at _. refl) (λ _. refl))
+    (λ e. each-line (fedWith f) (stoppedWith f (if (eqb (f .progress .kept) 0) 0 3)) (SameChips f) (ofFeed feedTable f) (λ n at _. refl) (λ _. refl))
 
 -- the bytes behind the chips, kept or written
 written : (t next : Progress) (s : Bool) → (s ≡ true → next ≡ t) → if s (progressBytes t) (progressBytes next) ≡ progressBytes next
@@ -126,7 +126,7 @@ open-chips : (left right : Chip) → let after = openOf left right .feed in chip
 unfolding openOf
 open-chips left right =
     let f = asFeed left right (begun Open) in
-    each-line (λ n at. fedWith (asFeed left right (begun (Stopped n at))) n at) (fedWith f 0 0) (SameChips f) (feedTable f) (λ n at _. refl)
+    each-line (λ n at. fedWith (asFeed left right (begun (Stopped n at))) n at) (fedWith f 0 0) (SameChips f) (ofFeed feedTable f) (λ n at _. refl)
     (λ _. refl)
 
 open-follows : (feed : List ℕ) (left right : Chip) → length feed ≡ 48 → let o = openOf left right in

@@ -24,7 +24,7 @@ use Rattle.trace.specs.declared.feed.Feed.{Feed}
 use Rattle.trace.specs.declared.feed.Fed.{Fed}
 use Rattle.trace.specs.declared.feed.FedInPlace.{FedInPlace}
 use Rattle.trace.proofs.Bounds.{tally-few}
-use Rattle.trace.proofs.FeedCases.{part-right, part-low, state-low, by-ending, goes-on}
+use Rattle.trace.proofs.FeedCases.{ofFeed, part-right, part-low, state-low, by-ending, goes-on}
 use Rattle.trace.proofs.KeptOver.{joined-length}
 use Rattle.pedralume.specs.FeedBytes.{numberByte, stopPlace, wordAt, marksRight, progressIn}
 use Rattle.pedralume.specs.FeedPromises.{BytesFit, Fits}
@@ -80,7 +80,7 @@ module _ (f : Feed) (fits : Fits (f .progress)) where
       let bytes = joinedTo t part in
       by-ending PartCoded (t .ending) (stopped-place t fits)
       (λ _. each-line (notTaken f ram answers) (tookPart f bytes (endedBytes p bytes answers)) PartCoded
-      (partTable f (length ram) (length part) (length answers))
+      (ofFeed partTable f (length ram) (length part) (length answers))
       (λ n at first. omega (arith, part-low f (length ram) (length part) (length answers) n at first))
       (λ none. let right = part-right f (length ram) (length part) (length answers) none in
       let few = tally-few p bytes answers refl in
@@ -90,14 +90,14 @@ module _ (f : Feed) (fits : Fits (f .progress)) where
   unfolding closeOf openClose
   close-place =
       by-ending FedCoded (f .progress .ending) (stopped-place (f .progress) fits)
-      (λ _. each-line (fedWith f) (stoppedWith f (if (eqb (f .progress .kept) 0) 0 3)) FedCoded (feedTable f)
+      (λ _. each-line (fedWith f) (stoppedWith f (if (eqb (f .progress .kept) 0) 0 3)) FedCoded (ofFeed feedTable f)
       (λ n at first. omega (arith, state-low f n at first)) (λ _. fits .records))
 
 pub open-place : (left right : Chip) → FedCoded (openOf left right)
 unfolding openOf
 open-place left right =
     let f = asFeed left right (begun Open) in
-    each-line (λ n at. fedWith (asFeed left right (begun (Stopped n at))) n at) (fedWith f 0 0) FedCoded (feedTable f)
+    each-line (λ n at. fedWith (asFeed left right (begun (Stopped n at))) n at) (fedWith f 0 0) FedCoded (ofFeed feedTable f)
     (λ n at first. omega (arith, state-low f n at first)) (λ _. omega arith)
 
 pub in-place-place : (chips ram part answers : List ℕ) (t : Progress) → Fits t → (i : InPlace FedInPlace) → i ≡ partInPlace chips t ram part answers

@@ -25,7 +25,7 @@ use Rattle.trace.specs.FeedPromises.{refusesPart}
 use Rattle.trace.specs.declared.progress.Ending.the-variants.{Open, Stopped}
 use Rattle.trace.specs.declared.progress.Progress.{Progress}
 use Rattle.trace.specs.declared.feed.Feed.{Feed}
-use Rattle.trace.proofs.FeedCases.{state-two, part-right, part-refuses, part-taken, open-refused, closes, close-refused, close-passed}
+use Rattle.trace.proofs.FeedCases.{ofFeed, state-two, part-right, part-refuses, part-taken, open-refused, closes, close-refused, close-passed}
 use Rattle.trace.proofs.PartCases.{still-stopped, still-open, not-taken}
 use Rattle.trace.proofs.RunNumbers.{own-number, low-number}
 use Rattle.trace.proofs.StoppedFeed.{stopped-repeats}
@@ -87,12 +87,12 @@ module _ (feed : List ℕ) (h : length feed ≡ 48) where
   abbrev read : Feed
   read = feedIn (take 24 feed) (progressIn (drop 24 feed))
 
-  same-state : feedTable read ≡ feedBytesTable feed
+  same-state : ofFeed feedTable read ≡ feedBytesTable feed
   same-state =
       let size = chips-length feed h 0 0 in
       rw (left-passes (take 24 feed) size _ refl, right-passes (take 24 feed) size _ refl, same-wrong (drop 24 feed))
 
-  same-part : (ram part answers : ℕ) → partTable read ram part answers ≡ partCallTable feed ram part answers
+  same-part : (ram part answers : ℕ) → ofFeed partTable read ram part answers ≡ partCallTable feed ram part answers
   unfolding progressIn
   same-part ram part answers =
       let b = drop 24 feed in
@@ -126,7 +126,7 @@ module _ (feed : List ℕ) (h : length feed ≡ 48) where
     abbrev outcome : ReplayOutcome
     outcome = endedBytes (asPanel (read .left) (read .right) ram) (joinedTo (read .progress) part) answers
 
-    passed : NoneHolds (partTable read (length ram) (length part) (length answers))
+    passed : NoneHolds (ofFeed partTable read (length ram) (length part) (length answers))
     passed = subst NoneHolds (sym (same-part (length ram) (length part) (length answers))) none
 
     given : partCall feed ram part answers .answer ≡ tallyPacked (tookPart read (joinedTo (read .progress) part) outcome .answer)
@@ -152,7 +152,7 @@ module _ (feed chips : List ℕ) (h : length feed ≡ 48) (k : length chips ≡ 
       → openCall feed chips ≡ result (feedPacked n at) (chips ++ progressBytes (begun (Stopped n at)))
   unfolding openCall
   open-call-state first =
-      let line : First (feedTable (feedIn chips (begun Open))) n at =
+      let line : First (ofFeed feedTable (feedIn chips (begun Open))) n at =
       rw (left-passes chips k _ refl, right-passes chips k _ refl)
       (⊎-elim (λ here. inl here) (λ later. inr (later .0, ⊎-elim (λ here. inl here) (λ none. absurd (none .1)) (later .1))) first) in
       rw (eq-eqb (length feed) 48 h, eq-eqb (length chips) 24 k, open-refused (chipsIn chips .left) (chipsIn chips .right) n at line)

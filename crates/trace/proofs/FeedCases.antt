@@ -2,7 +2,7 @@
 use Prim.Native.Nat.{ℕ, _+_, _≤_}
 use native.Mathlib.Omega.{arith}
 use mathlib.Core.Path.{_≡_, refl, ap}
-use mathlib.Core.Bool.{true, false, not}
+use mathlib.Core.Bool.{Bool, true, not}
 use mathlib.Core.List.{List}
 use lib.Dec.{ltb, eqb}
 use lib.ListN.{length}
@@ -13,18 +13,22 @@ use Rattle.basics.specs.Verdict.{verdict}
 use Rattle.basics.specs.declared.verdict.Verdict.{Verdict}
 use Rattle.basics.proofs.Table.{first-refuses, none-refuses, each-line, of-first, refusing-line, passing-table}
 use Rattle.basics.proofs.Tests.{neither}
-use Rattle.sed1520.specs.Chip.{inRange}
+use Rattle.sed1520.specs.Chip.{inRange, outOfRange}
 use Rattle.sed1520.specs.declared.registers.Chip.{Chip}
 use Rattle.panel.specs.Panel.{asPanel}
-use Rattle.trace.specs.Replay.{endedBytes, sizesWrong}
-use Rattle.trace.specs.Feed.{begun, joinedTo, completedBy, tooMany, progressWrong, asFeed, feedTable, partTable, stateVerdict}
-use Rattle.trace.specs.Feed.{partVerdict, fedWith}
+use Rattle.trace.specs.Replay.{endedBytes}
+use Rattle.trace.specs.Feed.{begun, joinedTo, completedBy, progressWrong, asFeed, feedTable, partTable, stateVerdict, partVerdict, fedWith}
 use Rattle.trace.specs.Feed.{openOf, unlessStopped, notTaken, tookPart, openPart, partOf, stoppedWith, openClose, closeOf}
 use Rattle.trace.specs.FeedPromises.{refusesPart}
+use Rattle.trace.specs.declared.progress.Progress.{Progress}
 use Rattle.trace.specs.declared.progress.Ending.{Ending}
 use Rattle.trace.specs.declared.progress.Ending.the-variants.{Open, Stopped}
 use Rattle.trace.specs.declared.feed.Feed.{Feed}
 use Rattle.trace.proofs.ReplayNumbers.{Sizes, sizes-right, right-sizes}
+
+-- what is asked of a feed by whether either chip is out of range and by its progress
+abbrev pub ofFeed : {A : Type 0} → (Bool → Bool → Progress → A) → Feed → A
+ofFeed asked f = asked (outOfRange (f .left)) (outOfRange (f .right)) (f .progress)
 
 -- number 2 has no cause
 pub record StateRight (f : Feed) : Type 0 where
@@ -40,7 +44,7 @@ pub record PartRight (f : Feed) (ram part answers : ℕ) : Type 0 where
   pub countable : f .progress .records + completedBy (f .progress .kept) part ≤ 4294967295
   pub state : StateRight f
 
-pub state-right : (f : Feed) → NoneHolds (feedTable f) → StateRight f
+pub state-right : (f : Feed) → NoneHolds (ofFeed feedTable f) → StateRight f
 unfolding progressWrong
 state-right f none =
     let t = f .progress in
@@ -54,7 +58,7 @@ state-right f none =
       differing = ltb-false (t .compared) (t .differing) (counts .1);
     }
 
-pub right-state : (f : Feed) → StateRight f → NoneHolds (feedTable f)
+pub right-state : (f : Feed) → StateRight f → NoneHolds (ofFeed feedTable f)
 unfolding progressWrong
 right-state f s =
     let t = f .progress in (
@@ -70,42 +74,42 @@ right-state f s =
     )
 
 -- number 2 is the only one of a feed, at places up to 3
-pub state-two : (f : Feed) (n at : ℕ) → First (feedTable f) n at → n ≡ 2
-state-two f = of-first (λ n at. n ≡ 2) (feedTable f) (λ _. refl, λ _. (λ _. refl, λ _. (λ _. refl, λ _. tt)))
+pub state-two : (f : Feed) (n at : ℕ) → First (ofFeed feedTable f) n at → n ≡ 2
+state-two f = of-first (λ n at. n ≡ 2) (ofFeed feedTable f) (λ _. refl, λ _. (λ _. refl, λ _. (λ _. refl, λ _. tt)))
 
-pub state-low : (f : Feed) (n at : ℕ) → First (feedTable f) n at → at ≤ 3
-state-low f = of-first (λ n at. at ≤ 3) (feedTable f) (λ _. omega arith, λ _. (λ _. omega arith, λ _. (λ _. omega arith, λ _. tt)))
+pub state-low : (f : Feed) (n at : ℕ) → First (ofFeed feedTable f) n at → at ≤ 3
+state-low f = of-first (λ n at. at ≤ 3) (ofFeed feedTable f) (λ _. omega arith, λ _. (λ _. omega arith, λ _. (λ _. omega arith, λ _. tt)))
 
-pub state-place : (f : Feed) → stateVerdict f .place ≤ 3
+pub state-place : (f : Feed) → ofFeed stateVerdict f .place ≤ 3
 unfolding stateVerdict
-state-place f = each-line verdict (verdict 0 0) (λ (v : Verdict). v .place ≤ 3) (feedTable f) (state-low f) (λ _. omega arith)
+state-place f = each-line verdict (verdict 0 0) (λ (v : Verdict). v .place ≤ 3) (ofFeed feedTable f) (state-low f) (λ _. omega arith)
 
 -- code that computes the verdict first
-module _ (f : Feed) (v : Verdict) (e : v ≡ stateVerdict f) where
-  pub state-line : (v .number ≡ 0 → ⊥) → First (feedTable f) (v .number) (v .place)
+module _ (f : Feed) (v : Verdict) (e : v ≡ ofFeed stateVerdict f) where
+  pub state-line : (v .number ≡ 0 → ⊥) → First (ofFeed feedTable f) (v .number) (v .place)
   unfolding stateVerdict
-  state-line = refusing-line (feedTable f) v 0 e
+  state-line = refusing-line (ofFeed feedTable f) v 0 e
 
-  pub state-passed : v .number ≡ 0 → NoneHolds (feedTable f)
+  pub state-passed : v .number ≡ 0 → NoneHolds (ofFeed feedTable f)
   unfolding stateVerdict
-  state-passed = passing-table (feedTable f) v 0 e (λ z. omega arith, (λ z. omega arith, (λ z. omega arith, tt)))
+  state-passed = passing-table (ofFeed feedTable f) v 0 e (λ z. omega arith, (λ z. omega arith, (λ z. omega arith, tt)))
 
-module _ (f : Feed) (ram part answers : ℕ) (v : Verdict) (e : v ≡ partVerdict f ram part answers) where
-  pub part-line : (v .number ≡ 0 → ⊥) → First (partTable f ram part answers) (v .number) (v .place)
+module _ (f : Feed) (ram part answers : ℕ) (v : Verdict) (e : v ≡ ofFeed partVerdict f ram part answers) where
+  pub part-line : (v .number ≡ 0 → ⊥) → First (ofFeed partTable f ram part answers) (v .number) (v .place)
   unfolding partVerdict
-  part-line = refusing-line (partTable f ram part answers) v 0 e
+  part-line = refusing-line (ofFeed partTable f ram part answers) v 0 e
 
-  pub part-passed : v .number ≡ 0 → NoneHolds (partTable f ram part answers)
+  pub part-passed : v .number ≡ 0 → NoneHolds (ofFeed partTable f ram part answers)
   unfolding partVerdict
   part-passed =
-      passing-table (partTable f ram part answers) v 0 e
+      passing-table (ofFeed partTable f ram part answers) v 0 e
       (λ z. omega arith, (λ z. omega arith, (λ z. omega arith, (λ z. omega arith, (λ z. omega arith, tt)))))
 
 module _ (f : Feed) (ram part answers : ℕ) where
   abbrev more : ℕ
   more = completedBy (f .progress .kept) part
 
-  pub part-right : NoneHolds (partTable f ram part answers) → PartRight f ram part answers
+  pub part-right : NoneHolds (ofFeed partTable f ram part answers) → PartRight f ram part answers
   part-right none =
       record {
         sizes = sizes-right part more ram answers (none .0);
@@ -113,7 +117,7 @@ module _ (f : Feed) (ram part answers : ℕ) where
         state = state-right f (none .1 .1);
       }
 
-  pub right-part : PartRight f ram part answers → NoneHolds (partTable f ram part answers)
+  pub right-part : PartRight f ram part answers → NoneHolds (ofFeed partTable f ram part answers)
   right-part r =
       let s = r .sizes in (
         right-sizes part more ram answers (s .short) (s .image) (s .space),
@@ -121,42 +125,28 @@ module _ (f : Feed) (ram part answers : ℕ) where
       )
 
   -- a part is refused before its first record by 1, 13 or 2
-  pub part-refuses : (n at : ℕ) → First (partTable f ram part answers) n at → refusesPart n ≡ true
+  pub part-refuses : (n at : ℕ) → First (ofFeed partTable f ram part answers) n at → refusesPart n ≡ true
   part-refuses =
-      of-first (λ n at. refusesPart n ≡ true) (partTable f ram part answers)
+      of-first (λ n at. refusesPart n ≡ true) (ofFeed partTable f ram part answers)
       (λ _. refl, λ _. (λ _. refl, λ _. (λ _. refl, λ _. (λ _. refl, λ _. (λ _. refl, λ _. tt)))))
 
-  pub part-low : (n at : ℕ) → First (partTable f ram part answers) n at → at ≤ 3
+  pub part-low : (n at : ℕ) → First (ofFeed partTable f ram part answers) n at → at ≤ 3
   part-low =
-      of-first (λ n at. at ≤ 3) (partTable f ram part answers)
+      of-first (λ n at. at ≤ 3) (ofFeed partTable f ram part answers)
       (λ _. omega arith, λ _. (λ _. omega arith, λ _. (λ _. omega arith, λ _. (λ _. omega arith, λ _. (λ _. omega arith, λ _. tt)))))
-
-  -- the tests one after the other
-  pub part-sizes : sizesWrong part more ram answers ≡ true → partVerdict f ram part answers ≡ verdict 1 0
-  unfolding partVerdict
-  part-sizes s = rw s
-
-  module _ (s : sizesWrong part more ram answers ≡ false) where
-    pub part-many : tooMany (f .progress .records) more ≡ true → partVerdict f ram part answers ≡ verdict 13 0
-    unfolding partVerdict
-    part-many m = rw (s, m)
-
-    pub part-state : tooMany (f .progress .records) more ≡ false → partVerdict f ram part answers ≡ stateVerdict f
-    unfolding partVerdict stateVerdict
-    part-state m = rw (s, m)
 
 -- the opening
 module _ (left right : Chip) where
   abbrev opened : Feed
   opened = asFeed left right (begun Open)
 
-  pub open-refused : (n at : ℕ) → First (feedTable opened) n at → openOf left right ≡ fedWith (asFeed left right (begun (Stopped n at))) n at
+  pub open-refused : (n at : ℕ) → First (ofFeed feedTable opened) n at → openOf left right ≡ fedWith (asFeed left right (begun (Stopped n at))) n at
   unfolding openOf
-  open-refused = first-refuses (λ n at. fedWith (asFeed left right (begun (Stopped n at))) n at) (fedWith opened 0 0) (feedTable opened)
+  open-refused = first-refuses (λ n at. fedWith (asFeed left right (begun (Stopped n at))) n at) (fedWith opened 0 0) (ofFeed feedTable opened)
 
-  pub open-done : NoneHolds (feedTable opened) → openOf left right ≡ fedWith opened 0 0
+  pub open-done : NoneHolds (ofFeed feedTable opened) → openOf left right ≡ fedWith opened 0 0
   unfolding openOf
-  open-done = none-refuses (λ n at. fedWith (asFeed left right (begun (Stopped n at))) n at) (fedWith opened 0 0) (feedTable opened)
+  open-done = none-refuses (λ n at. fedWith (asFeed left right (begun (Stopped n at))) n at) (fedWith opened 0 0) (ofFeed feedTable opened)
 
 -- what holds of a stopped feed's answer and of an open one's
 pub by-ending : {A : Type 0} (P : A → Type 0) (e : Ending) {repeat : ℕ → ℕ → A} {go : A} → ((n at : ℕ) → e ≡ Stopped n at → P (repeat n at))
@@ -184,22 +174,22 @@ module _ (f : Feed) (ram part answers : List ℕ) where
   abbrev bytes : List ℕ
   bytes = joinedTo (f .progress) part
 
-  pub part-refused : (n at : ℕ) → First (partTable f (length ram) (length part) (length answers)) n at
+  pub part-refused : (n at : ℕ) → First (ofFeed partTable f (length ram) (length part) (length answers)) n at
       → openPart f ram part answers ≡ notTaken f ram answers n at
   unfolding openPart
-  part-refused = first-refuses (notTaken f ram answers) _ (partTable f (length ram) (length part) (length answers))
+  part-refused = first-refuses (notTaken f ram answers) _ (ofFeed partTable f (length ram) (length part) (length answers))
 
-  pub part-taken : NoneHolds (partTable f (length ram) (length part) (length answers))
+  pub part-taken : NoneHolds (ofFeed partTable f (length ram) (length part) (length answers))
       → openPart f ram part answers ≡ tookPart f bytes (endedBytes (asPanel (f .left) (f .right) ram) bytes answers)
   unfolding openPart
-  part-taken = none-refuses (notTaken f ram answers) _ (partTable f (length ram) (length part) (length answers))
+  part-taken = none-refuses (notTaken f ram answers) _ (ofFeed partTable f (length ram) (length part) (length answers))
 
 -- the closing of an open feed, by its table
 module _ (f : Feed) where
-  pub close-refused : (n at : ℕ) → First (feedTable f) n at → openClose f ≡ fedWith f n at
+  pub close-refused : (n at : ℕ) → First (ofFeed feedTable f) n at → openClose f ≡ fedWith f n at
   unfolding openClose
-  close-refused = first-refuses (fedWith f) _ (feedTable f)
+  close-refused = first-refuses (fedWith f) _ (ofFeed feedTable f)
 
-  pub close-passed : NoneHolds (feedTable f) → openClose f ≡ stoppedWith f (if (eqb (f .progress .kept) 0) 0 3)
+  pub close-passed : NoneHolds (ofFeed feedTable f) → openClose f ≡ stoppedWith f (if (eqb (f .progress .kept) 0) 0 3)
   unfolding openClose
-  close-passed = none-refuses (fedWith f) _ (feedTable f)
+  close-passed = none-refuses (fedWith f) _ (ofFeed feedTable f)

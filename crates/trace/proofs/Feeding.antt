@@ -31,7 +31,7 @@ use Rattle.trace.specs.declared.progress.Ending.the-variants.{Open, Stop
 use Rattle.trace.specs.declared.feed.Feed.{Feed}
 use Rattle.trace.specs.declared.feed.Fed.{Fed}
 use Rattle.trace.proofs.Counts.{compared-bound, compared-join, differing-compared, differing-join, differing-front}
-use Rattle.trace.proofs.FeedCases.{StateRight, right-part, part-refuses, part-refused, part-taken}
+use Rattle.trace.proofs.FeedCases.{ofFeed, StateRight, right-part, part-refuses, part-refused, part-taken}
 use Rattle.trace.proofs.Joined.{replies-length}
 use Rattle.trace.proofs.KeptOver.{cut-off-length, cut-off-on, records-on, kept-back}
 
@@ -122,7 +122,7 @@ module _ (p : Panel) (bytes : List ℕ) (x : Part) where
     abbrev g : Feed
     g = asFeed (before .state .left) (before .state .right) t
 
-    module _ (none : NoneHolds (partTable g (length (before .state .ram)) (length (x .bytes)) (length (x .buffer)))) where
+    module _ (none : NoneHolds (ofFeed partTable g (length (before .state .ram)) (length (x .bytes)) (length (x .buffer)))) where
       part-is : given f (before .state .ram) x ≡ tookPart g next (endedBytes (before .state) next (x .buffer))
       unfolding partOf t
       part-is = rw still-open (rw joined-next at (part-taken g (before .state .ram) (x .bytes) (x .buffer) none))
@@ -154,7 +154,7 @@ module _ (p : Panel) (bytes : List ℕ) (x : Part) where
           }
 
     -- refused before the first record
-    refused-first : (n at : ℕ) → First (partTable g (length (before .state .ram)) (length (x .bytes)) (length (x .buffer))) n at
+    refused-first : (n at : ℕ) → First (ofFeed partTable g (length (before .state .ram)) (length (x .bytes)) (length (x .buffer))) n at
         → refusesPart (given f (before .state .ram) x .answer .number) ≡ true
     unfolding partOf t
     refused-first n at first =
@@ -162,11 +162,11 @@ module _ (p : Panel) (bytes : List ℕ) (x : Part) where
 
   -- nothing refuses the part before its first record
   abbrev Passes : Feed → Type 0
-  Passes q = NoneHolds (partTable q (length (before .state .ram)) (length (x .bytes)) (length (x .buffer)))
+  Passes q = NoneHolds (ofFeed partTable q (length (before .state .ram)) (length (x .bytes)) (length (x .buffer)))
 
   -- where nothing refuses it before its first record
   pub takes-if : (before .number ≡ 0
-      → NoneHolds (partTable (feedAfter before bytes) (length (before .state .ram)) (length (x .bytes)) (length (x .buffer))))
+      → NoneHolds (ofFeed partTable (feedAfter before bytes) (length (before .state .ram)) (length (x .bytes)) (length (x .buffer))))
       → Takes (feedAfter before bytes) (before .state .ram) x before after (bytes ++ x .bytes)
   unfolding f
   takes-if right =
@@ -182,7 +182,7 @@ module _ (p : Panel) (bytes : List ℕ) (x : Part) where
       takes-if (λ done. ⊎-elim
       (λ first. absurd (true≢false (sym (refused-first done _ _ (first .1 .1)) ∙ h)))
       (λ none. subst Passes (sym (still-open done)) none)
-      (first-or-none (partTable (g done) (length (before .state .ram)) (length (x .bytes)) (length (x .buffer)))))
+      (first-or-none (ofFeed partTable (g done) (length (before .state .ram)) (length (x .bytes)) (length (x .buffer)))))
 
 -- the feed after bytes is right, while it is open
 module _ (p : Panel) (whole : Whole p) (bytes : List ℕ) (done : traceRun p bytes .number ≡ 0) where
@@ -203,7 +203,7 @@ module _ (p : Panel) (whole : Whole p) (bytes : List ℕ) (done : traceRun p byt
   pub nothing-refuses : (x : Part) → length (x .bytes) ≤ 65536 → 2 * completedBy (length bytes % 4) (length (x .bytes)) ≤ length (x .buffer)
       → (length bytes + length (x .bytes)) / 4 ≤ 4294967295
       → let r = traceRun p bytes in
-      NoneHolds (partTable (feedAfter r bytes) (length (r .state .ram)) (length (x .bytes)) (length (x .buffer)))
+      NoneHolds (ofFeed partTable (feedAfter r bytes) (length (r .state .ram)) (length (x .bytes)) (length (x .buffer)))
   nothing-refuses x short room countable =
       let r = traceRun p bytes in
       let all = run-ends panelStep (front []) (wholeRecords bytes) p .done done in

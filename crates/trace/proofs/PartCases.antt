@@ -22,7 +22,7 @@ use Rattle.trace.specs.declared.progress.Progress.{Progress}
 use Rattle.trace.specs.declared.progress.Ending.{Ending}
 use Rattle.trace.specs.declared.progress.Ending.the-variants.{Open, Stopped}
 use Rattle.trace.specs.declared.feed.FedInPlace.{FedInPlace}
-use Rattle.trace.proofs.FeedCases.{part-right, part-refused, part-taken, by-ending, stays-stopped, goes-on}
+use Rattle.trace.proofs.FeedCases.{ofFeed, part-right, part-refused, part-taken, by-ending, stays-stopped, goes-on}
 use Rattle.trace.proofs.InPlace.{kept, panel-back}
 
 module _ (chips ram part answers : List ℕ) (t : Progress) where
@@ -39,11 +39,11 @@ module _ (chips ram part answers : List ℕ) (t : Progress) where
     unfolding partInPlace
     still-open e = rw (e, eq-eqb (length chips) 24 size)
 
-    pub not-taken : (n at : ℕ) → First (partTable (feedIn chips t) (length ram) (length part) (length answers)) n at
+    pub not-taken : (n at : ℕ) → First (ofFeed partTable (feedIn chips t) (length ram) (length part) (length answers)) n at
         → inPlace (fedInPlace t n at) chips ram answers ≡ partOverBytes chips (openPart (feedIn chips t) ram part answers)
     not-taken n at first = rw (part-refused (feedIn chips t) ram part answers n at first) (rw (kept chips size))
 
-    pub part-run : NoneHolds (partTable (feedIn chips t) (length ram) (length part) (length answers))
+    pub part-run : NoneHolds (ofFeed partTable (feedIn chips t) (length ram) (length part) (length answers))
         → (i : InPlace Tally) → i ≡ overBytes chips (endedBytes (panelIn chips ram) (joinedTo t part) answers)
         → (next : Progress) → next ≡ movedOn t (joinedTo t part) (i .answer)
         → inPlace (fedInPlace next (i .answer .number) (next .records)) (i .lent .state) (i .lent .ram) (i .lent .answers)
@@ -66,7 +66,7 @@ module _ (left right : Chip) (t : Progress) (ram part answers : List ℕ) where
       let f = asFeed left right t in
       by-ending Stays (t .ending) (λ n at e. refl)
       (λ _. each-line (notTaken f ram answers) (tookPart f (joinedTo t part) (endedBytes (asPanel left right ram) (joinedTo t part) answers)) Stays
-      (partTable f (length ram) (length part) (length answers)) (λ n at _. refl)
+      (ofFeed partTable f (length ram) (length part) (length answers)) (λ n at _. refl)
       (λ none. let state = part-right f _ _ _ none .state in
       absurd (true≢false (rw (state .left, state .right) at out))))
 

@@ -22,7 +22,8 @@ use Rattle.trace.specs.FeedPromises.{Part, given, fedParts, refusesPart,
 use Rattle.trace.specs.declared.progress.Ending.the-variants.{Open, Stopped}
 use Rattle.trace.specs.declared.feed.Feed.{Feed}
 use Rattle.trace.specs.declared.feed.Fed.{Fed}
-use Rattle.trace.proofs.FeedCases.{state-two, part-right, part-refuses, by-ending, stays-stopped, goes-on, closes, part-refused, part-taken}
+use Rattle.trace.proofs.FeedCases.{ofFeed, state-two, part-right, part-refuses, by-ending, stays-stopped, goes-on, closes}
+use Rattle.trace.proofs.FeedCases.{part-refused, part-taken}
 use Rattle.trace.proofs.RunNumbers.{own-number, run-number}
 
 module _ (f : Feed) (n at : ℕ) (stopped : f .progress .ending ≡ Stopped n at) where
@@ -49,7 +50,7 @@ unfolding openOf
 open-stops left right =
     let f = asFeed left right (begun Open) in
     each-line (λ n at. fedWith (asFeed left right (begun (Stopped n at))) n at) (fedWith f 0 0) (λ (d : Fed). (d .tally .number ≡ 0 → ⊥) → Stops d)
-    (feedTable f) (λ n at _ _. refl) (λ _ h. absurd (h refl))
+    (ofFeed feedTable f) (λ n at _ _. refl) (λ _ h. absurd (h refl))
 
 -- records run on a feed stop it where one is refused
 run-stops : (f : Feed) (bytes : List ℕ) (o : ReplayOutcome) → (o .answer .number ≡ 0 → ⊥) → Stops (fedBy (tookPart f bytes o))
@@ -58,7 +59,7 @@ run-stops f bytes o h = rw (ne-eqb (o .answer .number) 0 h)
 
 module _ (f : Feed) (ram part answers : List ℕ) (is-open : f .progress .ending ≡ Open) where
   abbrev lines : List Cause
-  lines = partTable f (length ram) (length part) (length answers)
+  lines = ofFeed partTable f (length ram) (length part) (length answers)
 
   abbrev outcome : ReplayOutcome
   outcome = endedBytes (asPanel (f .left) (f .right) ram) (joinedTo (f .progress) part) answers
@@ -96,15 +97,15 @@ close-stops : (f : Feed) → f .progress .ending ≡ Open → (closeOf f .tally 
 unfolding openClose
 close-stops f is-open =
     rw (closes f is-open)
-    (each-line (fedWith f) (stoppedWith f (if (eqb (f .progress .kept) 0) 0 3)) (λ (d : Fed). (d .tally .number ≡ 2 → ⊥) → Stops d) (feedTable f)
-    (λ n at first h. absurd (h (state-two f n at first)))
+    (each-line (fedWith f) (stoppedWith f (if (eqb (f .progress .kept) 0) 0 3)) (λ (d : Fed). (d .tally .number ≡ 2 → ⊥) → Stops d)
+    (ofFeed feedTable f) (λ n at first h. absurd (h (state-two f n at first)))
     (λ _ h. refl))
 
 close-refused : (f : Feed) → f .progress .ending ≡ Open → closeOf f .tally .number ≡ 2 → closeOf f .feed ≡ f
 unfolding openClose
 close-refused f is-open =
     rw (closes f is-open)
-    (each-line (fedWith f) (stoppedWith f (if (eqb (f .progress .kept) 0) 0 3)) (λ (d : Fed). d .tally .number ≡ 2 → d .feed ≡ f) (feedTable f)
+    (each-line (fedWith f) (stoppedWith f (if (eqb (f .progress .kept) 0) 0 3)) (λ (d : Fed). d .tally .number ≡ 2 → d .feed ≡ f) (ofFeed feedTable f)
     (λ n at _ _. refl)
     (λ _. when (λ (n : ℕ). n ≡ 2 → stoppedWith f n .feed ≡ f) (eqb (f .progress .kept) 0) (λ _ e. absurd (omega arith))
     (λ _ e. absurd (omega arith))))

@@ -84,23 +84,23 @@ progressWrong t = ltb 3 (t .kept) || (ltb (t .records) (t .compared) || ltb (t .
 abbrev pub asFeed : Chip → Chip → Progress → Feed
 asFeed left right t = record { left = left; right = right; progress = t }
 
--- number 2 of a feed: the left chip, the right one, then place 3
-abbrev pub feedTable : Feed → List Cause
-feedTable f = leftThenRight 2 (outOfRange (f .left)) (outOfRange (f .right)) (cause 2 3 (progressWrong (f .progress)) ∷ [])
+-- number 2 of a feed, by whether the left chip and the right one are out of range and by its progress: left, right, then place 3
+abbrev pub feedTable : Bool → Bool → Progress → List Cause
+feedTable left right t = leftThenRight 2 left right (cause 2 3 (progressWrong t) ∷ [])
 
--- what a part is refused by before its first record, by the lengths of image, part and answers: numbers 1, 13 and 2
-abbrev pub partTable : Feed → ℕ → ℕ → ℕ → List Cause
-partTable f ram part answers =
-    let more = completedBy (f .progress .kept) part in
-    cause 1 0 (sizesWrong part more ram answers) ∷ cause 13 0 (tooMany (f .progress .records) more) ∷ feedTable f
+-- what a part is refused by before its first record, by the same and by the lengths of image, part and answers: numbers 1, 13 and 2
+abbrev pub partTable : Bool → Bool → Progress → ℕ → ℕ → ℕ → List Cause
+partTable left right t ram part answers =
+    let more = completedBy (t .kept) part in
+    cause 1 0 (sizesWrong part more ram answers) ∷ cause 13 0 (tooMany (t .records) more) ∷ feedTable left right t
 
 -- number 2 of a feed and its place, or 0
-unfoldable pub stateVerdict : Feed → Verdict
-stateVerdict f = verdictBy (feedTable f) (verdict 0 0)
+unfoldable pub stateVerdict : Bool → Bool → Progress → Verdict
+stateVerdict left right t = verdictBy (feedTable left right t) (verdict 0 0)
 
 -- numbers 1, 13 and 2 of a part and their place, or 0
-unfoldable pub partVerdict : Feed → ℕ → ℕ → ℕ → Verdict
-partVerdict f ram part answers = verdictBy (partTable f ram part answers) (verdict 0 0)
+unfoldable pub partVerdict : Bool → Bool → Progress → ℕ → ℕ → ℕ → Verdict
+partVerdict left right t ram part answers = verdictBy (partTable left right t ram part answers) (verdict 0 0)
 
 -- the tally of a number and its place, with the counts so far
 abbrev pub soFar : Progress → ℕ → ℕ → Tally
@@ -117,7 +117,7 @@ fedWith f n at = asFed (soFar (f .progress) n at) f
 -- the opening of a feed on two chips: it is stopped with number 2 where one of them is out of range
 unfoldable pub openOf : Chip → Chip → Fed
 openOf left right =
-    unlessRefused (feedTable (asFeed left right (begun Open)))
+    unlessRefused (feedTable (outOfRange left) (outOfRange right) (begun Open))
     (λ n at. fedWith (asFeed left right (begun (Stopped n at))) n at) (fedWith (asFeed left right (begun Open)) 0 0)
 
 -- a stopped feed repeats its number and place, before any other test; an open one goes on
@@ -161,8 +161,8 @@ tookPart f bytes o =
 unfoldable pub openPart : Feed → List ℕ → List ℕ → List ℕ → PartOutcome
 openPart f ram part answers =
     let bytes = joinedTo (f .progress) part in
-    unlessRefused (partTable f (length ram) (length part) (length answers)) (notTaken f ram answers)
-    (tookPart f bytes (endedBytes (asPanel (f .left) (f .right) ram) bytes answers))
+    unlessRefused (partTable (outOfRange (f .left)) (outOfRange (f .right)) (f .progress) (length ram) (length part) (length answers))
+    (notTaken f ram answers) (tookPart f bytes (endedBytes (asPanel (f .left) (f .right) ram) bytes answers))
 
 -- a part given to a feed
 unfoldable pub partOf : Feed → List ℕ → List ℕ → List ℕ → PartOutcome
@@ -177,7 +177,9 @@ stoppedWith f n =
 -- the closing of a feed that is open: number 2, which leaves it open; then 3 where bytes are kept over, else 0. In the code the count of records has
 -- 32 bits, so number 13 has no cause here
 unfoldable pub openClose : Feed → Fed
-openClose f = unlessRefused (feedTable f) (fedWith f) (stoppedWith f (if (eqb (f .progress .kept) 0) 0 3))
+openClose f =
+    unlessRefused (feedTable (outOfRange (f .left)) (outOfRange (f .right)) (f .progress)) (fedWith f)
+    (stoppedWith f (if (eqb (f .progress .kept) 0) 0 3))
 
 -- the closing of a feed: a stopped one repeats, an open one is closed
 unfoldable pub closeOf : Feed → Fed

@@ -11,7 +11,7 @@ use Rattle.panel.specs.Chips.{panelIn}
 use Rattle.panel.specs.Panel.{Panel, asPanel}
 use Rattle.sed1520.specs.Chip.{outOfRange}
 use Rattle.sed1520.specs.declared.registers.Chip.{Chip}
-use Rattle.trace.specs.Feed.{begun, joinedTo, asFeed, feedTable, partTable, openOf, tookPart, partOf, closeOf}
+use Rattle.trace.specs.Feed.{begun, joinedTo, feedTable, partTable, openOf, tookPart, partOf, closeOf}
 use Rattle.trace.specs.Replay.{inPlace, nothingRun, tallyVerdict, endedBytes, replayTable, replayOf, replayBytesTable, replayInPlace}
 use Rattle.trace.specs.declared.progress.Ending.the-variants.{Open}
 use Rattle.trace.specs.declared.feed.Feed.{Feed}
@@ -39,10 +39,12 @@ EveryRefusalBefore =
 -- the calls of a feed that is not stopped give 1, 13 and 2 exactly when their lines say so; else an opening gives 0, a part the number of its
 -- records' run, and a close 3 or 0, with the records since the opening as place
 pub record FeedNumbers : Type 0 where
-  pub opened : (left right : Chip) → ExactlyWhen (feedTable (asFeed left right (begun Open))) (verdict 0 0) (tallyVerdict (openOf left right .tally))
+  pub opened : (left right : Chip) → ExactlyWhen (feedTable (outOfRange left) (outOfRange right) (begun Open)) (verdict 0 0)
+      (tallyVerdict (openOf left right .tally))
   pub part : (f : Feed) (ram part answers : List ℕ) → f .progress .ending ≡ Open → let bytes = joinedTo (f .progress) part in
-      ExactlyWhen (partTable f (length ram) (length part) (length answers))
+      ExactlyWhen (partTable (outOfRange (f .left)) (outOfRange (f .right)) (f .progress) (length ram) (length part) (length answers))
       (tallyVerdict (tookPart f bytes (endedBytes (asPanel (f .left) (f .right) ram) bytes answers) .answer))
       (tallyVerdict (partOf f ram part answers .answer))
   pub closed : (f : Feed) → f .progress .ending ≡ Open
-      → ExactlyWhen (feedTable f) (verdict (if (eqb (f .progress .kept) 0) 0 3) (f .progress .records)) (tallyVerdict (closeOf f .tally))
+      → ExactlyWhen (feedTable (outOfRange (f .left)) (outOfRange (f .right)) (f .progress))
+      (verdict (if (eqb (f .progress .kept) 0) 0 3) (f .progress .records)) (tallyVerdict (closeOf f .tally))

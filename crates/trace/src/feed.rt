@@ -9,7 +9,7 @@ ghost use Rattle.basics.specs.Choice.{if};
 ghost use Rattle.panel.specs.Chips.{chipsLength, panelIn, BothPass};
 ghost use Rattle.basics.specs.Verdict.{verdict};
 ghost use Rattle.trace.specs.Replay.{inPlace, endedBytes, overBytes};
-ghost use Rattle.trace.specs.Feed.{joinedTo, completedBy, tooMany, progressWrong, asFeed, stateVerdict, partVerdict, fedWith};
+ghost use Rattle.trace.specs.Feed.{joinedTo, completedBy, tooMany, progressWrong, stateVerdict, partVerdict, fedWith};
 ghost use Rattle.trace.specs.Feed.{openOf, partOutcome, openPart, partOf, stoppedWith, openClose, closeOf};
 ghost use Rattle.trace.specs.FeedInPlace.{fedInPlace, feedIn, partOverBytes, partInPlace};
 use crate::ANSWER_BYTES;
@@ -24,6 +24,8 @@ use panel::chips::CHIPS_BYTES;
 use panel::chips::chips_bytes;
 use panel::chips::chips_in;
 use sed1520::bus::RECORD_BYTES;
+use sed1520::chip_bytes::CHIP_BYTES;
+use sed1520::chip_bytes::bytes_pass;
 use sed1520::registers::Chip;
 
 // The most records that a feed may take.
@@ -74,18 +76,24 @@ fn progress_verdict(progress: Progress) -> Verdict
 }
 
 // Number 2, or 0: the left chip, the right one, then place 3.
-fn state_verdict(left: Chip, right: Chip, progress: Progress) -> Verdict
-    ensures { λ r. ⌜ r ≡ stateVerdict (asFeed left right progress) ⌝ }
+fn state_verdict(left_out: bool, right_out: bool, progress: Progress) -> Verdict
+    ensures { λ r. ⌜ r ≡ stateVerdict «left_out» «right_out» progress ⌝ }
 {
     let own = progress_verdict(progress);
-    Verdict::unless(!left.in_range(), !right.in_range(), 2, own)
+    Verdict::unless(left_out, right_out, 2, own)
 }
 
 // Numbers 1, 13 and 2 of a part, or 0.
-fn part_verdict(feed: Feed, ram: usize, part: usize, answers: usize) -> Verdict
-    ensures { λ r. ⌜ r ≡ partVerdict feed ram part answers ⌝ }
+fn part_verdict(
+    left_out: bool,
+    right_out: bool,
+    progress: Progress,
+    ram: usize,
+    part: usize,
+    answers: usize,
+) -> Verdict
+    ensures { λ r. ⌜ r ≡ partVerdict «left_out» «right_out» progress ram part answers ⌝ }
 {
-    let progress = feed.progress;
     let more = completed(progress.kept, part);
     if sizes_wrong(part, more, ram, answers) {
         return Verdict::new(1, 0);
@@ -93,9 +101,7 @@ fn part_verdict(feed: Feed, ram: usize, part: usize, answers: usize) -> Verdict
     if too_many(progress.records, more) {
         return Verdict::new(13, 0);
     }
-    let left = feed.left;
-    let right = feed.right;
-    state_verdict(left, right, progress)
+    state_verdict(left_out, right_out, progress)
 }
 
 // The records that a part completes, the first of them with the bytes kept over.
@@ -204,15 +210,16 @@ fn open_part(
         ≡ partOverBytes (now (chips .entry))
         (openPart (feedIn (now (chips .entry)) progress) (now (ram .entry)) (now (part .entry)) (now (answers .entry))) ⌝ }
 {
-    let both = chips_in(chips);
-    let left = both.left;
-    let right = both.right;
-    let feed = Feed {
-        left,
-        right,
+    let left_out = !bytes_pass(&chips[..CHIP_BYTES]);
+    let right_out = !bytes_pass(&chips[CHIP_BYTES..]);
+    let verdict = part_verdict(
+        left_out,
+        right_out,
         progress,
-    };
-    let verdict = part_verdict(feed, ram.len(), part.len(), answers.len());
+        ram.len(),
+        part.len(),
+        answers.len(),
+    );
     if verdict.number != 0 {
         return reported_in_place(progress, verdict.number, verdict.place);
     }
@@ -227,7 +234,7 @@ impl Feed {
         ensures { λ r. ⌜ r ≡ openOf left right ⌝ }
     {
         let progress = Progress::begun(Ending::Open);
-        let verdict = state_verdict(left, right, progress);
+        let verdict = state_verdict(!left.in_range(), !right.in_range(), progress);
         if verdict.number != 0 {
             let feed = Feed {
                 left,
@@ -287,7 +294,7 @@ fn open_close(feed: Feed) -> Fed
     let left = feed.left;
     let right = feed.right;
     let progress = feed.progress;
-    let verdict = state_verdict(left, right, progress);
+    let verdict = state_verdict(!left.in_range(), !right.in_range(), progress);
     if verdict.number != 0 {
         return reported(feed, verdict.number, verdict.place);
     }

@@ -1,15 +1,18 @@
 -- `trace::feed::open_part` meets its contract: numbers 1, 13 and 2, then the records.
 use native.Mathlib.Omega.{arith}
-use mathlib.Core.Path.{_≡_, ap}
+use mathlib.Core.Path.{_≡_, refl, sym, ap}
 use lib.ListN.{length}
+use lib.Seq.{length-take-le}
 use borrow.Author.Needs.{needs}
 use Rattle.basics.specs.Table.{NoneHolds}
+use Rattle.basics.proofs.Parts.{rest}
+use Rattle.panel.proofs.TwoChips.{left-passes, right-passes}
 use Rattle.trace.specs.Feed.{partTable, partVerdict}
 use Rattle.trace.specs.FeedInPlace.{feedIn}
 use Rattle.trace.specs.Replay.{InPlace}
 use Rattle.trace.specs.declared.Tally.{Tally}
 use Rattle.trace.proofs.Bounds.{tally-few}
-use Rattle.trace.proofs.FeedCases.{PartRight, part-right, part-line, part-passed}
+use Rattle.trace.proofs.FeedCases.{ofFeed, PartRight, part-right, part-line, part-passed}
 use Rattle.trace.proofs.InPlace.{both-pass}
 use Rattle.trace.proofs.KeptOver.{joined-length}
 use Rattle.trace.proofs.PartCases.{not-taken, part-run}
@@ -18,19 +21,25 @@ use Rattle.trace.proofs.feed.open_part.Tie as tie
 
 -- the start, from past the tests; and the verdict that they gave
 abbrev start : tie.After-part-verdict → tie.Start
-start c = c .before .before .before .before .before .before .before .before .before
+start c = c .before .before .before .before .before .before .before .before .before .before
 
 reported : (c : tie.After-part-verdict) → let at = start c .args in
     c .part-verdict .result
-    ≡ partVerdict (feedIn (at .chips .now) (at .progress)) (length (at .ram .now)) (length (at .part .now)) (length (at .answers .now))
-reported c = rw (c .before .before .before .chips-in .ensures) at (c .part-verdict .ensures)
+    ≡ ofFeed partVerdict (feedIn (at .chips .now) (at .progress)) (length (at .ram .now)) (length (at .part .now)) (length (at .answers .now))
+reported c =
+    let right = c .before in
+    let left = right .before .before .before in
+    let chips = start c .args .chips .now in
+    let size = start c .pre in
+    rw (left-passes chips size _ refl, right-passes chips size _ refl, ← left .bytes-pass .ensures, ← rest chips 12, ← right .bytes-pass2 .ensures)
+    (c .part-verdict .ensures)
 
 -- the test, from past the records run
 abbrev test : tie.After-run-part → tie.Else1
 test c = c .before .before .before .before
 
 none : (c : tie.Else1) → let at = start (c .before .before) .args in
-    NoneHolds (partTable (feedIn (at .chips .now) (at .progress)) (length (at .ram .now)) (length (at .part .now)) (length (at .answers .now)))
+    NoneHolds (ofFeed partTable (feedIn (at .chips .now) (at .progress)) (length (at .ram .now)) (length (at .part .now)) (length (at .answers .now)))
 none c = part-passed _ _ _ _ _ (reported (c .before .before)) (omega arith)
 
 passed : (c : tie.Else1) → let at = start (c .before .before) .args in
@@ -83,6 +92,12 @@ pub open-part-spec : {M : Type 1} → statement M
 open-part-spec =
     tie.close
     (tie.spec
+    (λ c. search needs)
+    (λ c. sym (length-take-le 12 (c .before .before .before .before .before .args .chips .now) (omega arith)))
+    (λ c κs. search needs)
+    (λ c. search needs)
+    (λ c. search needs)
+    (λ c. search needs)
     (λ c κs. search needs)
     (λ c κs. search needs)
     (λ c κs. search needs)

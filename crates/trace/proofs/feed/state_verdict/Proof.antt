@@ -6,11 +6,7 @@ use Rattle.trace.proofs.feed.state_verdict.Tie as tie
 
 returns : tie.Need-returns
 unfolding stateVerdict
-returns c =
-    let right = c .before in
-    let left = right .before in
-    rw (c .unless .ensures, right .in-range2 .ensures, left .in-range .ensures, left .before .progress-verdict .ensures)
+returns c = rw (c .unless .ensures, c .before .progress-verdict .ensures)
 
 pub state-verdict-spec : {M : Type 1} → statement M
-state-verdict-spec =
-    tie.close (tie.spec (λ c κs. search needs) (λ c κs. search needs) (λ c κs. search needs) (λ c κs. search needs) returns)
+state-verdict-spec = tie.close (tie.spec (λ c κs. search needs) (λ c κs. search needs) returns)
