@@ -1,14 +1,14 @@
 /*
  * Drives the archive and the plain implementation side by side on random calls, and compares every
- * byte lent, guard bytes around it, and the 64-bit answers. Then the archive's replay against itself,
- * begun with other latch marks.
+ * byte lent, guard bytes around it, and the 64-bit answers; replay, and now and then changes, also over
+ * traces of runs. Then the archive's replay against itself, begun with other latch marks.
  *
  *   compare [seed [cases]]
  *
  * Case i of a seed is the same whatever the number of cases.
  */
 #define PROGRAM "compare"
-#include "contest.h"
+#include "run_traces.h"
 
 enum { NUMBERS = 16 };
 
@@ -221,12 +221,13 @@ static void check_refused_columns(bool tried[COLUMN_SETS][2])
             fail("replay, column set", byte, "not tried in both modes, draw more cases");
 }
 
+static const struct contest replay_contest = {
+    "replay", 4, { false, false, true, false }, { pedralume_replay, plain_replay }, { NULL, NULL }, { NULL, NULL },
+    { "chips", "RAM", "trace", "answers" }
+};
+
 static void compare_replays(uint64_t seed, unsigned long cases)
 {
-    static const struct contest contest = {
-        "replay", 4, { false, false, true, false }, { pedralume_replay, plain_replay }, { NULL, NULL }, { NULL, NULL },
-        { "chips", "RAM", "trace", "answers" }
-    };
     static const bool due[NUMBERS] = { 1, 1, 1, 1, 1, 1, 1, 1, 1, 0, 0, 0, 0, 0, 1 };
     static bool tried[COLUMN_SETS][2];
     struct tally tally = { 0 };
@@ -234,10 +235,10 @@ static void compare_replays(uint64_t seed, unsigned long cases)
         struct rng g = rng_for(seed, 1, at);
         struct bundle given;
         draw_replay(&g, &given);
-        note_refused_column(tried, &given, contend(&contest, at, &given, &tally));
-        free_bundle(&given, contest.parts);
+        note_refused_column(tried, &given, contend(&replay_contest, at, &given, &tally));
+        free_bundle(&given, replay_contest.parts);
     }
-    report(&contest, &tally, due);
+    report(&replay_contest, &tally, due);
     check_refused_columns(tried);
 }
 
@@ -494,10 +495,7 @@ static void put_repaints(struct trace *t, struct rng *g, uint8_t *chips, size_t 
     for (; count > 0 && t->len + REPAINT <= TRACE_MAX; count--) {
         if (!one_in(g, 3))
             random_bytes(g, picture, PICTURE);
-        plain_repaint(then, CHIPS, picture, PICTURE, t->bytes + t->len, REPAINT);
-        t->len += REPAINT;
-        then[PEDRALUME_START_LINE] ^= 16;
-        then[CHIP + PEDRALUME_START_LINE] ^= 16;
+        put_repaint(t, then, picture);
     }
 }
 
@@ -588,12 +586,13 @@ static void note_changes(struct listing *l, const struct bundle *given, uint64_t
         l->rooms[room_kind(given->part[PART_ENTRIES].len, ENTRY * listed)]++;
 }
 
+static const struct contest changes_contest = {
+    "changes", 4, { true, true, true, false }, { NULL, NULL }, { NULL, NULL }, { pedralume_changes, plain_changes },
+    { "chips", "RAM", "trace", "entries" }
+};
+
 static void compare_changes(uint64_t seed, unsigned long cases)
 {
-    static const struct contest contest = {
-        "changes", 4, { true, true, true, false }, { NULL, NULL }, { NULL, NULL }, { pedralume_changes, plain_changes },
-        { "chips", "RAM", "trace", "entries" }
-    };
     static const bool due[NUMBERS] = { 1, 1, 1, 1, 1, 1, 1, 1, 1, 0, 0, 0, 0, 0, 1, 1 };
     struct tally tally = { 0 };
     struct listing listing = { 0 };
@@ -601,10 +600,10 @@ static void compare_changes(uint64_t seed, unsigned long cases)
         struct rng g = rng_for(seed, 9, at);
         struct bundle given;
         draw_changes(&g, &given);
-        note_changes(&listing, &given, contend(&contest, at, &given, &tally));
-        free_bundle(&given, contest.parts);
+        note_changes(&listing, &given, contend(&changes_contest, at, &given, &tally));
+        free_bundle(&given, changes_contest.parts);
     }
-    report(&contest, &tally, due);
+    report(&changes_contest, &tally, due);
     printf("compare: changes: %lu of %lu records listed; room exact %lu, longer %lu, a byte short %lu, an entry short %lu,"
            " none %lu, shorter %lu\n",
            listing.listed, listing.records, listing.rooms[EXACT], listing.rooms[LONGER], listing.rooms[BYTE_SHORT],
@@ -615,6 +614,60 @@ static void compare_changes(uint64_t seed, unsigned long cases)
 }
 
 #endif
+
+/* ---- random runs ---- */
+
+/* Draws chips, RAM and a trace of runs, and room of so many bytes for each record; the course says how far the trace is accepted. */
+static void draw_runs(struct rng *g, unsigned long at, size_t each, struct bundle *b, struct course *c)
+{
+    static struct trace t;
+    static uint8_t room[ENTRIES_MAX];
+    uint8_t chips[CHIPS], ram[RAM];
+    draw_run_chips(g, chips);
+    random_bytes(g, ram, RAM);
+    begin_course(c, &t, chips, ram);
+    put_runs(c, g, at);
+    size_t len = each * (t.len / RECORD + below(g, 20));
+    random_bytes(g, room, len);
+    b->part[0] = lend(chips, CHIPS, 0);
+    b->part[1] = lend(ram, RAM, 0);
+    b->part[PART_TRACE] = lend(t.bytes, t.len, 0);
+    b->part[PART_ANSWERS] = lend(room, len, 0);
+}
+
+/* The trace must be refused where the draw means it to be, and there only. */
+static void contend_runs(const struct contest *c, uint64_t seed, unsigned long cases, size_t each)
+{
+    static const bool due[NUMBERS] = { 1, 0, 0, 0, 1, 1, 1, 1, 1, 0, 0, 0, 0, 0, 1 };
+    struct tally tally = { 0 };
+    for (unsigned long at = 0; at < cases; at++) {
+        struct rng g = rng_for(seed, 10, at);
+        struct bundle given;
+        struct course course;
+        draw_runs(&g, at, each, &given, &course);
+        uint64_t answer = contend(c, at, &given, &tally);
+        if (pedralume_number(answer) != course.number)
+            fail(c->name, at, "the trace has another number than it was drawn for");
+        if (refuses_record(course.number) && pedralume_place(answer) != course.accepted / RECORD)
+            fail(c->name, at, "the trace is refused at another record than it was drawn for");
+        free_bundle(&given, c->parts);
+    }
+    report(c, &tally, due);
+}
+
+static void compare_runs(uint64_t seed, unsigned long cases)
+{
+    struct contest contest = replay_contest;
+    contest.name = "replay over runs";
+    contend_runs(&contest, seed, cases, 2);
+    report_runs();
+    check_run_details();
+#ifdef WITH_CHANGES
+    contest = changes_contest;
+    contest.name = "changes over runs";
+    contend_runs(&contest, seed, cases / 8, ENTRY);
+#endif
+}
 
 int main(int argc, char **argv)
 {
@@ -632,6 +685,7 @@ int main(int argc, char **argv)
 #ifdef WITH_CHANGES
     compare_changes(seed, cases);
 #endif
+    compare_runs(seed, cases);
     printf("compare: %u failed\n", failures);
     return failures == 0 ? EXIT_SUCCESS : EXIT_FAILURE;
 }

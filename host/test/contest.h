@@ -20,6 +20,13 @@ static inline void fail(const char *where, unsigned long at, const char *what)
     exit(EXIT_FAILURE);
 }
 
+/* A draw that never comes to a case would prove little: that is a failure too. */
+static inline void must_occur(unsigned long times, const char *where, unsigned long at)
+{
+    if (times == 0)
+        fail(where, at, "never tried, draw more");
+}
+
 static inline void *have(void *block)
 {
     if (block != NULL)
@@ -101,48 +108,54 @@ static inline unsigned draw_missing_column(struct rng *g)
     return between(g, COLUMN_STOP, COLUMN_SETS - 1);
 }
 
-/*
- * Turns record i into a column set, half of the time to a column that RAM has not, and the one before it into
- * the command that forbids it.
- */
-static inline void damage_by_mode(struct trace *t, struct rng *g, size_t i)
-{
-    uint8_t *at = t->bytes + RECORD * i;
-    unsigned chip = at[1] & 1u, column = one_in(g, 2) ? draw_missing_column(g) : below(g, COLUMN_STOP);
-    const uint8_t set[RECORD] = { PEDRALUME_COMMAND_WRITE, (uint8_t)chip, (uint8_t)column, 0 };
-    const uint8_t mode[RECORD] = { PEDRALUME_COMMAND_WRITE, (uint8_t)chip, 0xE0, 0 };
-    memcpy(at, set, RECORD);
-    if (i > 0)
-        memcpy(at - RECORD, mode, RECORD);
-}
+/* What a record is refused for. */
+enum { SPARE_LINE, FOURTH_BYTE, HIGH_CHIP, EQUAL_STROBES, NO_COMMAND, MISSING_COLUMN, COLUMN_IN_RMW, FAULTS };
 
-static inline void damage_record(struct trace *t, struct rng *g, size_t i)
+/*
+ * Gives the record this fault. The last one makes it a column set, half of the time to a column that RAM has
+ * not; read-modify-write must be on before it.
+ */
+static inline void spoil_record(uint8_t *at, struct rng *g, unsigned fault)
 {
     static const uint8_t equal_strobes[] = { 0, 1, 6, 7 };
-    uint8_t *at = t->bytes + RECORD * i;
-    switch (below(g, 7)) {
-    case 0:
+    switch (fault) {
+    case SPARE_LINE:
         at[0] = (uint8_t)(at[0] | between(g, 1, 31) << 3);
         break;
-    case 1:
+    case FOURTH_BYTE:
         at[3] = (uint8_t)between(g, 1, 255);
         break;
-    case 2:
+    case HIGH_CHIP:
         at[1] = (uint8_t)(one_in(g, 2) ? 2 : between(g, 2, 255));
         break;
-    case 3:
+    case EQUAL_STROBES:
         at[0] = equal_strobes[below(g, 4)];
         break;
-    case 4:
+    case NO_COMMAND:
         at[0] = PEDRALUME_COMMAND_WRITE;
         at[2] = (uint8_t)draw_non_command(g);
         break;
-    case 5:
+    case MISSING_COLUMN:
         at[0] = PEDRALUME_COMMAND_WRITE;
         at[2] = (uint8_t)draw_missing_column(g);
         break;
     default:
-        damage_by_mode(t, g, i);
+        at[0] = PEDRALUME_COMMAND_WRITE;
+        at[1] &= 1;
+        at[2] = (uint8_t)(one_in(g, 2) ? draw_missing_column(g) : below(g, COLUMN_STOP));
+        at[3] = 0;
+    }
+}
+
+/* Any fault; where it needs read-modify-write, the record before turns it on. */
+static inline void damage_record(struct trace *t, struct rng *g, size_t i)
+{
+    uint8_t *at = t->bytes + RECORD * i;
+    unsigned fault = below(g, FAULTS);
+    spoil_record(at, g, fault);
+    if (fault == COLUMN_IN_RMW && i > 0) {
+        const uint8_t mode[RECORD] = { PEDRALUME_COMMAND_WRITE, at[1], 0xE0, 0 };
+        memcpy(at - RECORD, mode, RECORD);
     }
 }
 

@@ -1,14 +1,15 @@
 /*
  * Feeds in two ways. Random feeds: the archive and the plain implementation side by side, every byte
  * lent, guard bytes around it and the answers compared after every call. Any cut: the archive's feed
- * against its own replay on random traces, each cut in several ways.
+ * against its own replay on random traces, each cut in several ways. Both are tried over traces of runs too;
+ * there the cuts are at every byte around the end of a run, and after every byte.
  *
  *   feeds [seed [count]]
  *
  * Feed or trace i of a seed is the same whatever the count.
  */
 #define PROGRAM "feeds"
-#include "contest.h"
+#include "run_traces.h"
 
 enum { NUMBERS = 15, LONGEST_RAM = 1300, LONGEST_FEED = 100, MOST_RECORDS = 300 };
 
@@ -264,10 +265,19 @@ static void draw_session(struct session *s)
     s->next = 0;
 }
 
+static void draw_session_of_runs(struct session *s)
+{
+    struct course course;
+    random_bytes(s->g, s->ram, sizeof s->ram);
+    draw_run_chips(s->g, s->chips);
+    begin_course(&course, s->trace, s->chips, s->ram);
+    put_runs(&course, s->g, s->at);
+    s->next = 0;
+}
+
 /* Opens, gives the trace in random parts with odd calls between, closes; a stopped feed is given a few parts more. */
 static void run_session(struct session *s)
 {
-    draw_session(s);
     if (one_in(s->g, 4))
         open_session(s, 2);
     open_session(s, 0);
@@ -285,13 +295,6 @@ static void run_session(struct session *s)
         close_session(s, 0);
         give_part(s, i, 0);
     }
-}
-
-/* A draw that never comes to a case would prove little: that is a failure too. */
-static void must_occur(unsigned long times, const char *where, unsigned long at)
-{
-    if (times == 0)
-        fail(where, at, "never tried, draw more feeds");
 }
 
 static void report_feeds(unsigned long count)
@@ -323,19 +326,34 @@ static void compare_feeds(uint64_t seed, unsigned long count)
     for (unsigned long at = 0; at < count; at++) {
         struct rng g = rng_for(seed, 5, at);
         struct session s = { .g = &g, .at = at, .trace = &trace };
+        draw_session(&s);
         run_session(&s);
     }
     report_feeds(count);
 }
 
+static void compare_feeds_of_runs(uint64_t seed, unsigned long count)
+{
+    static struct trace trace;
+    unsigned long before = tally.records;
+    for (unsigned long at = 0; at < count; at++) {
+        struct rng g = rng_for(seed, 11, at);
+        struct session s = { .g = &g, .at = at, .trace = &trace };
+        draw_session_of_runs(&s);
+        run_session(&s);
+    }
+    printf("feeds: %lu feeds of runs, %lu records accepted\n", count, tally.records - before);
+}
+
 /* ---- any cut ---- */
 
-enum { BLOCKS = 5, LONGEST = BLOCKS * TRACE_MAX };
+enum { BLOCKS = 5, LONGEST = BLOCKS * TRACE_MAX, PAST = 64 };
 
 /* Chips, RAM, answers and counts before or after a trace; number and place after it. */
 struct outcome {
-    uint8_t chips[CHIPS], ram[RAM], answers[2 * (LONGEST / RECORD) + 64];
+    uint8_t chips[CHIPS], ram[RAM];
     uint64_t number, place, compared, differing;
+    uint8_t answers[2 * (LONGEST / RECORD) + PAST];
 };
 
 static struct {
@@ -343,6 +361,7 @@ static struct {
 } cuts;
 
 static uint8_t whole[LONGEST];
+static struct outcome start, wanted, got;
 
 /* Replays whole records, at most 65,536 bytes at a time, until one is refused or there are no more. */
 static void replay_whole(struct outcome *o, size_t len)
@@ -359,11 +378,11 @@ static void replay_whole(struct outcome *o, size_t len)
 }
 
 /* Fills `whole` with blocks of records, each accepted after the ones before; the last may have a bad record. */
-static size_t draw_whole(struct rng *g, const struct outcome *start, size_t records, unsigned blocks)
+static size_t draw_whole(struct rng *g, size_t records, unsigned blocks)
 {
     static struct trace t;
     static struct outcome state;
-    state = *start;
+    state = start;
     size_t len = 0;
     for (unsigned block = 0; block < blocks; block++) {
         t.len = 0;
@@ -387,6 +406,20 @@ static size_t draw_cut(struct rng *g, unsigned way, size_t left)
     return len < left ? len : left;
 }
 
+/* The length of the first part, and that of the others. Where the latter is 0, all lengths are drawn in this way. */
+struct cutting {
+    size_t first, others;
+    unsigned way;
+};
+
+static size_t cut_at(struct rng *g, const struct cutting *c, size_t next, size_t left)
+{
+    size_t len = next == 0 ? c->first : c->others;
+    if (c->others == 0)
+        return draw_cut(g, c->way, left);
+    return len < left ? len : left;
+}
+
 /* One part, lent exact room or more behind the answers so far, at another place than the part before. */
 static uint64_t feed_cut(struct rng *g, uint8_t **feed, struct outcome *o, const uint8_t *part, size_t len)
 {
@@ -403,14 +436,14 @@ static uint64_t feed_cut(struct rng *g, uint8_t **feed, struct outcome *o, const
 }
 
 /* The whole trace through a feed: parts after a refused record are given too, and must all say the same. */
-static void feed_whole(struct rng *g, struct outcome *o, size_t len, unsigned way, unsigned long at)
+static void feed_whole(struct rng *g, struct outcome *o, size_t len, const struct cutting *cutting, unsigned long at)
 {
     uint8_t opened[FEED], *feed = opened;
     uint64_t answer = pedralume_feed_open(opened, FEED, o->chips, CHIPS), refusal = 0;
     if (answer != 0)
         fail("cut", at, "the feed is not opened");
     for (size_t next = 0, part; next < len; next += part) {
-        part = draw_cut(g, way, len - next);
+        part = cut_at(g, cutting, next, len - next);
         answer = feed_cut(g, &feed, o, whole + next, part);
         if (refusal != 0 && answer != refusal)
             fail("cut", at, "a stopped feed does not repeat its number and place");
@@ -426,27 +459,34 @@ static void feed_whole(struct rng *g, struct outcome *o, size_t len, unsigned wa
     o->differing = pedralume_feed_differing(feed);
 }
 
-/* One trace, cut in so many ways; each must end where replay does, with the same answers, and no other byte written. */
-static void try_cuts(struct rng *g, size_t records, unsigned blocks, unsigned ways, unsigned long at)
+/* The feed must end where replay does, with the same answers and no other of the outcome's first bytes written. */
+static void try_cut(struct rng *g, size_t len, const struct cutting *cutting, size_t bytes, unsigned long at)
 {
-    static struct outcome start, wanted, got;
-    memset(&start, 0, sizeof start);
-    memset(start.answers, 0xEE, sizeof start.answers);
-    draw_chips(g, start.chips);
-    random_bytes(g, start.ram, RAM);
-    size_t len = draw_whole(g, &start, records, blocks);
-    wanted = start;
+    memcpy(&got, &start, bytes);
+    feed_whole(g, &got, len, cutting, at);
+    cuts.cuts++;
+    if (memcmp(&got, &wanted, bytes) != 0)
+        fail("cut", at, "the feed ends elsewhere than the replay");
+}
+
+static void replay_start(size_t len, size_t bytes)
+{
+    memcpy(&wanted, &start, bytes);
     replay_whole(&wanted, len);
     cuts.traces++;
     cuts.refused += wanted.number != PEDRALUME_DONE;
     cuts.longer += len > TRACE_MAX;
-    for (unsigned way = 0; way < ways; way++) {
-        got = start;
-        feed_whole(g, &got, len, blocks > 1 ? way + 4 : way, at);
-        cuts.cuts++;
-        if (memcmp(&got, &wanted, sizeof got) != 0)
-            fail("cut", at, "the feed ends elsewhere than the replay");
-    }
+}
+
+/* One trace, cut in so many ways. */
+static void try_cuts(struct rng *g, size_t records, unsigned blocks, unsigned ways, unsigned long at)
+{
+    draw_chips(g, start.chips);
+    random_bytes(g, start.ram, RAM);
+    size_t len = draw_whole(g, records, blocks);
+    replay_start(len, sizeof start);
+    for (unsigned way = 0; way < ways; way++)
+        try_cut(g, len, &(struct cutting){ .way = blocks > 1 ? way + 4 : way }, sizeof start, at);
 }
 
 static void compare_cuts(uint64_t seed, unsigned long count)
@@ -465,13 +505,65 @@ static void compare_cuts(uint64_t seed, unsigned long count)
     must_occur(cuts.longer, "a trace over 65,536 bytes", 0);
 }
 
+/* ---- runs, cut at every byte ---- */
+
+/* Cuts within a run, by its kind and by how many bytes of a record stand before the cut. */
+static unsigned long within[RUN_KINDS][RECORD];
+
+static void note_cut(size_t byte)
+{
+    size_t i = byte / RECORD;
+    if (i == 0 || i >= wanted.place || memcmp(whole + RECORD * (i - 1), whole + RECORD * i, 2) != 0)
+        return;
+    for (unsigned kind = 0; kind < RUN_KINDS; kind++)
+        within[kind][byte % RECORD] += whole[RECORD * i] == lines_of[kind];
+}
+
+/* Feeds a trace of runs in parts of one byte, and in two parts, cut at each byte from six records before a run's end to six after it. */
+static void try_run_cuts(struct rng *g, unsigned long at)
+{
+    static struct trace t;
+    struct course c;
+    draw_run_chips(g, start.chips);
+    random_bytes(g, start.ram, RAM);
+    begin_course(&c, &t, start.chips, start.ram);
+    put_runs(&c, g, at);
+    memcpy(whole, t.bytes, t.len);
+    size_t end = c.ends[below(g, (unsigned)c.runs)], around = 6 * RECORD;
+    size_t bytes = offsetof(struct outcome, answers) + 2 * (t.len / RECORD) + PAST;
+    replay_start(t.len, bytes);
+    try_cut(g, t.len, &(struct cutting){ .first = 1, .others = 1 }, bytes, at);
+    for (size_t first = end > around ? end - around : 1; first < t.len && first <= end + around; first++) {
+        try_cut(g, t.len, &(struct cutting){ .first = first, .others = TRACE_MAX }, bytes, at);
+        note_cut(first);
+    }
+}
+
+static void compare_run_cuts(uint64_t seed, unsigned long count)
+{
+    memset(&cuts, 0, sizeof cuts);
+    for (unsigned long at = 0; at < count; at++) {
+        struct rng g = rng_for(seed, 12, at);
+        try_run_cuts(&g, at);
+    }
+    printf("feeds: %lu traces of runs (%lu refused at a record), each as its replay at every one of %lu cuts into %lu parts\n",
+           cuts.traces, cuts.refused, cuts.cuts, cuts.parts);
+    must_occur(cuts.refused, "a trace of runs refused at a record", 0);
+    for (unsigned i = 0; i < RUN_KINDS * RECORD; i++)
+        must_occur(within[i / RECORD][i % RECORD], "a cut within a run", i);
+}
+
 int main(int argc, char **argv)
 {
     uint64_t seed = argc > 1 ? strtoull(argv[1], NULL, 0) : 1520;
     unsigned long count = argc > 2 ? strtoul(argv[2], NULL, 0) : 8000;
     printf("feeds: seed %llu\n", (unsigned long long)seed);
+    memset(start.answers, 0xEE, sizeof start.answers);
     compare_feeds(seed, count);
     compare_cuts(seed, count);
+    compare_feeds_of_runs(seed, count / 10);
+    compare_run_cuts(seed, count / 16);
+    report_runs();
     printf("feeds: %u failed\n", failures);
     return failures == 0 ? EXIT_SUCCESS : EXIT_FAILURE;
 }

@@ -194,16 +194,24 @@ static inline void put_status(struct trace *t, unsigned chip, unsigned seen)
     put_record(t, PEDRALUME_STATUS_READ, chip, seen, 0);
 }
 
-static inline bool is_command(unsigned byte)
+enum { COMMAND_KINDS = 10 };
+
+/* Which of the ten commands the byte is, in the order of their bytes; one past the last where it is none. */
+static inline unsigned command_kind(unsigned byte)
 {
-    static const uint8_t range[][2] = {
+    static const uint8_t range[COMMAND_KINDS][2] = {
         { 0x00, COLUMN_SETS - 1 }, { 0xA0, 0xA1 }, { 0xA4, 0xA5 }, { 0xA8, 0xA9 }, { 0xAE, 0xAF },
         { 0xB8, 0xBB }, { 0xC0, 0xDF }, { 0xE0, 0xE0 }, { 0xE2, 0xE2 }, { 0xEE, 0xEE },
     };
-    for (size_t i = 0; i < sizeof range / sizeof range[0]; i++)
-        if (byte >= range[i][0] && byte <= range[i][1])
-            return true;
-    return false;
+    unsigned kind = 0;
+    while (kind < COMMAND_KINDS && (byte < range[kind][0] || byte > range[kind][1]))
+        kind++;
+    return kind;
+}
+
+static inline bool is_command(unsigned byte)
+{
+    return command_kind(byte) < COMMAND_KINDS;
 }
 
 /* A column set that is refused, since RAM has no such column (C-15). */
@@ -294,18 +302,28 @@ static inline void put_shown(struct trace *t, struct rng *g, const uint8_t *chip
             record[2] = record[2] == 0xAE ? 0xAF : 0xA4;
 }
 
-/* Gives each read that is answered the answered byte half of the time, and a random byte else. */
-static inline void settle_reads(struct trace *t, struct rng *g, const uint8_t *chips, const uint8_t *ram)
+/*
+ * Gives each read that is answered the answered byte half of the time, and a random byte else, from this byte of
+ * the trace on. Chips and RAM go on to what they are after the last accepted record.
+ */
+static inline void settle_from(struct trace *t, size_t from, struct rng *g, uint8_t *chips, uint8_t *ram)
 {
     static uint8_t answers[2 * RECORDS_MAX];
+    uint8_t *records = t->bytes + from;
+    size_t whole = (t->len - from) / RECORD * RECORD;
+    uint64_t answer = plain_replay(chips, CHIPS, ram, RAM, records, whole, answers, sizeof answers);
+    for (size_t i = 0; i < pedralume_place(answer); i++)
+        if (answers[2 * i] != PEDRALUME_KIND_WRITE)
+            records[RECORD * i + 2] = one_in(g, 2) ? answers[2 * i + 1] : random_byte(g);
+}
+
+/* The same in the whole trace; chips and RAM stay. */
+static inline void settle_reads(struct trace *t, struct rng *g, const uint8_t *chips, const uint8_t *ram)
+{
     uint8_t chips_then[CHIPS], ram_then[RAM];
     memcpy(chips_then, chips, CHIPS);
     memcpy(ram_then, ram, RAM);
-    size_t whole = t->len / RECORD * RECORD;
-    uint64_t answer = plain_replay(chips_then, CHIPS, ram_then, RAM, t->bytes, whole, answers, sizeof answers);
-    for (size_t i = 0; i < pedralume_place(answer); i++)
-        if (answers[2 * i] != PEDRALUME_KIND_WRITE)
-            t->bytes[RECORD * i + 2] = one_in(g, 2) ? answers[2 * i + 1] : random_byte(g);
+    settle_from(t, 0, g, chips_then, ram_then);
 }
 
 /* ---- random repaints ---- */
@@ -319,6 +337,15 @@ static inline void draw_ready_chip(struct rng *g, uint8_t *chip)
     chip[PEDRALUME_DISPLAY] = 1;
     chip[PEDRALUME_STATIC] = chip[PEDRALUME_DUTY] = chip[PEDRALUME_RMW] = chip[PEDRALUME_SAVED_COLUMN] = 0;
     chip[PEDRALUME_START_LINE] = one_in(g, 2) ? 0 : 16;
+}
+
+/* Appends a repaint of these chips, which are ready, and turns their start lines as it does. */
+static inline void put_repaint(struct trace *t, uint8_t *chips, const uint8_t *picture)
+{
+    plain_repaint(chips, CHIPS, picture, PICTURE, t->bytes + t->len, REPAINT);
+    t->len += REPAINT;
+    chips[PEDRALUME_START_LINE] ^= 16;
+    chips[CHIP + PEDRALUME_START_LINE] ^= 16;
 }
 
 /* Any length from 0 to most but the right one, often next to it. */
