@@ -106,3 +106,12 @@ module _ (n k : ℕ) (bytes : List ℕ) (two : length bytes ≡ n + n) where
         when (λ (l : List ℕ). length l ≡ n + n) (eqb k 0)
         (λ _. length-append part (drop n bytes) ∙ omega (arith, length-drop n bytes))
         (λ _. length-append (take n bytes) part ∙ omega (arith, front-length))
+
+    -- put in place twice, the second stands
+    pub put-again : (other : List ℕ) → partPut n k (partPut n k bytes part) other ≡ partPut n k bytes other
+    put-again other = at (eqb k 0)
+      where
+        at : (t : Bool) → let put = if t (part ++ drop n bytes) (take n bytes ++ part) in
+            if t (other ++ drop n put) (take n put ++ other) ≡ if t (other ++ drop n bytes) (take n bytes ++ other)
+        at true = rw (drop-at part (drop n bytes) n whole)
+        at false = rw (take-at (take n bytes) part n front-length)

@@ -7,5 +7,7 @@ pub mod Chosen
 pub mod Pieces
 pub mod Filling
 pub mod Run
+pub mod LeadingRun
+pub mod RunOfPart
 pub mod Bytes
 pub mod Counts

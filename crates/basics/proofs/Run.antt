@@ -18,12 +18,12 @@ module _ {S R A : Type 0} (step : S → R → Step S A) where
   unfolding runOf
   run-none s = refl
 
-  run-accepted : (s : S) (r : R) (rs : List R) → eqb (step s r .number) 0 ≡ true
+  pub run-accepted : (s : S) (r : R) (rs : List R) → eqb (step s r .number) 0 ≡ true
       → runOf step s (r ∷ rs) ≡ answeredFirst (step s r .answer) (runOf step (step s r .next) rs)
   unfolding runOf
   run-accepted s r rs t = rw t
 
-  run-refused : (s : S) (r : R) (rs : List R) → eqb (step s r .number) 0 ≡ false → runOf step s (r ∷ rs) ≡ asRun (step s r .number) [] s
+  pub run-refused : (s : S) (r : R) (rs : List R) → eqb (step s r .number) 0 ≡ false → runOf step s (r ∷ rs) ≡ asRun (step s r .number) [] s
   unfolding runOf
   run-refused s r rs t = rw t
 

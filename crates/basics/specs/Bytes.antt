@@ -1,5 +1,5 @@
 -- Numbers as bytes, lowest first; bytes compared and copied.
-use Prim.Native.Nat.{ℕ, _/_, _%_}
+use Prim.Native.Nat.{ℕ, _+_, _*_, _/_, _%_}
 use mathlib.Core.Bool.{Bool, true, false, _&&_}
 use mathlib.Core.List.{List, [], _∷_, _++_}
 use lib.Dec.{eqb}
@@ -16,6 +16,10 @@ pairBytes n = n % 256 ∷ n / 256 ∷ []
 -- a number below 2^32 as four bytes
 abbrev pub wordBytes : ℕ → List ℕ
 wordBytes n = n % 256 ∷ n / 256 % 256 ∷ n / 65536 % 256 ∷ n / 16777216 ∷ []
+
+-- four bytes as a number, lowest first
+abbrev pub asWord : ℕ → ℕ → ℕ → ℕ → ℕ
+asWord a b c d = a + 256 * b + 65536 * c + 16777216 * d
 
 -- whether two buffers hold the same bytes
 unfoldable pub sameBytes : List ℕ → List ℕ → Bool

@@ -10,8 +10,8 @@ use lib.ListN.{length, getD, drop, drop-of-length-le}
 use lib.Seq.{drop-cons}
 use borrow.Author.Tests.{eqb-true}
 use Rattle.basics.proofs.Tests.{tested, both}
-use Rattle.basics.specs.Bytes.{wordBytes}
-use Rattle.pedralume.specs.FeedBytes.{asWord, wordAt, progressBytes, marksRight, progressIn}
+use Rattle.basics.specs.Bytes.{asWord, wordBytes}
+use Rattle.pedralume.specs.FeedBytes.{wordAt, progressBytes, marksRight, progressIn}
 use Rattle.pedralume.specs.FeedPromises.{BytesFit}
 
 -- a list spelled out by its elements

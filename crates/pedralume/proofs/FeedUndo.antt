@@ -4,6 +4,7 @@ use native.Mathlib.Omega.{arith}
 use mathlib.Core.Path.{_≡_, refl, _∙_}
 use lib.ListN.{length, take, drop, length-append}
 use lib.Seq.{take-at, drop-at}
+use Rattle.basics.specs.Bytes.{asWord}
 use Rattle.panel.specs.Chips.{chipsBytes}
 use Rattle.panel.proofs.TwoChips.{two-length, two-there}
 use Rattle.trace.specs.FeedInPlace.{feedIn}
@@ -11,7 +12,7 @@ use Rattle.trace.specs.declared.progress.Ending.{Ending}
 use Rattle.trace.specs.declared.progress.Ending.the-variants.{Open, Stopped}
 use Rattle.trace.specs.declared.progress.Progress.{Progress}
 use Rattle.trace.specs.declared.feed.Feed.{Feed}
-use Rattle.pedralume.specs.FeedBytes.{asWord, stoppedByte, feedBytes, progressBytes, marksRight, progressIn}
+use Rattle.pedralume.specs.FeedBytes.{stoppedByte, feedBytes, progressBytes, marksRight, progressIn}
 use Rattle.pedralume.specs.FeedPromises.{BytesFit, Fits, FeedUnpacks, FeedBytesUndo}
 use Rattle.pedralume.proofs.BytesFit.{no-byte, byte-more, number-more}
 use Rattle.pedralume.proofs.FeedBack.{back}

@@ -1,11 +1,11 @@
 -- A feed as the C side has it: 48 bytes, no header. 24 of the chips; kept count; 3 kept bytes; 1 = stopped; number; two 0;
 -- then four numbers of 4 bytes, lowest first: place, records, compared, differing.
-use Prim.Native.Nat.{ℕ, _+_, _*_}
+use Prim.Native.Nat.{ℕ, _+_}
 use mathlib.Core.Bool.{Bool, _&&_, _||_}
 use mathlib.Core.List.{List, [], _∷_, _++_}
 use lib.Dec.{eqb}
 use lib.ListN.{getD, take, drop}
-use Rattle.basics.specs.Bytes.{wordBytes}
+use Rattle.basics.specs.Bytes.{asWord, wordBytes}
 use Rattle.basics.specs.Choice.{if}
 use Rattle.panel.specs.Chips.{chipsLength, chipsBytes}
 use Rattle.trace.specs.declared.progress.Ending.{Ending}
@@ -20,10 +20,6 @@ progressLength = 24
 -- how many bytes a feed is, its chips' and its progress's: 48
 abbrev pub feedLength : ℕ
 feedLength = chipsLength + progressLength
-
--- four bytes as a number, lowest first
-abbrev pub asWord : ℕ → ℕ → ℕ → ℕ → ℕ
-asWord a b c d = a + 256 * b + 65536 * c + 16777216 * d
 
 -- four bytes from a place on as a number
 abbrev pub wordAt : List ℕ → ℕ → ℕ

@@ -2,8 +2,9 @@
 ghost use Prim.Native.Nat.{_+_, _≤_};
 ghost use mathlib.Core.Path.{_≡_};
 ghost use lib.ListN.{length};
-ghost use Rattle.pedralume.specs.FeedBytes.{progressLength, asWord, wordAt, putWord, marksRight, endingIn, progressIn};
+ghost use Rattle.pedralume.specs.FeedBytes.{progressLength, wordAt, putWord, marksRight, endingIn, progressIn};
 ghost use Rattle.pedralume.specs.FeedBytes.{stoppedByte, numberByte, stopPlace, progressBytes};
+use basics::word_of;
 use panel::chips::CHIPS_BYTES;
 use trace::progress::Ending;
 use trace::progress::Progress;
@@ -13,13 +14,6 @@ pub(crate) const FEED_BYTES: usize = CHIPS_BYTES + PROGRESS_BYTES;
 
 // The bytes of a feed's progress.
 const PROGRESS_BYTES: usize = 24;
-
-// Four bytes as a number, lowest first.
-fn word_of(a: u8, b: u8, c: u8, d: u8) -> u32
-    ensures { λ r. ⌜ r ≡ asWord a b c d ⌝ }
-{
-    (a as u32) + 0x100 * (b as u32) + 0x1_0000 * (c as u32) + 0x100_0000 * (d as u32)
-}
 
 // Four bytes from a place on, lowest first.
 fn word_at(bytes: &[u8], at: usize) -> u32
