@@ -1,6 +1,7 @@
 pub mod BytesStay
 pub mod Columns
 pub mod FreshBytes
+pub mod OwnPart
 pub mod PanelLaws
 pub mod RecordNumbers
 pub mod RecordSteps

@@ -1,61 +1,30 @@
--- A step over the bytes of both chips that number 2 lets pass is the cycle of the chip that the bus record names.
-use Prim.Native.Nat.{ℕ, _+_, _-_}
-use native.Mathlib.Omega.{arith}
+-- A step over the bytes of both chips that number 2 lets pass is the cycle of the chip that the bus record names, and a run over them is the panel's.
+use Prim.Native.Nat.{ℕ}
 use mathlib.Core.Path.{_≡_, refl, sym, ap, _∙_}
-use mathlib.Core.Bool.{Bool, true, false, not, or-true}
-use mathlib.Core.List.{List, _++_}
+use mathlib.Core.Bool.{Bool, true, false}
+use mathlib.Core.List.{List, map-id}
 use lib.Dec.{eqb}
 use lib.ListN.{length, take, drop}
-use borrow.Author.Tests.{eq-eqb, ne-eqb}
 use Rattle.basics.specs.Choice.{if}
-use Rattle.basics.specs.Halves.{partStart, partAt, partPut}
-use Rattle.basics.proofs.Halves.{part-length, part-lent, part-back, put-front, put-rear, put-length}
+use Rattle.basics.specs.Halves.{partAt, partPut}
+use Rattle.basics.proofs.Halves.{part-length, put-front, put-rear, put-length}
+use Rattle.basics.proofs.Run.{AlikeSteps, run-alike}
+use Rattle.basics.proofs.RunOfPart.{stepIn}
 use Rattle.basics.proofs.Tests.{when, choice-of}
 use Rattle.sed1520.specs.Chip.{inRange}
 use Rattle.sed1520.specs.ChipBytes.{chipBytes, bytesPass, chipIn}
-use Rattle.sed1520.specs.Promises.{asBytes}
-use Rattle.sed1520.specs.BytesStep.{bareRefusal, acted, stepBytes}
-use Rattle.sed1520.specs.declared.bytes_step.BareAnswer.{BareAnswer}
+use Rattle.sed1520.specs.BytesRun.{BytesAndRam, withRam}
+use Rattle.sed1520.specs.Cycle.{Reply, asStep}
 use Rattle.sed1520.specs.declared.registers.Chip.{Chip}
 use Rattle.sed1520.specs.declared.bus.Record.{Record}
 use Rattle.sed1520.proofs.CycleKeeps.{cycle-keeps}
 use Rattle.sed1520.proofs.BytesSteps.{every-bytes-step}
 use Rattle.sed1520.proofs.ChipBytesUndo.{chip-bytes-length, there, passes, chip-passes}
 use Rattle.panel.specs.Chips.{panelIn, BothPass}
-use Rattle.panel.specs.Panel.{asPanel, chipAt, put, outcomeOf, stepped}
-use Rattle.panel.specs.Promises.{EveryRecordStep}
-use Rattle.panel.specs.Step.{putBack, stepChips}
+use Rattle.panel.specs.Panel.{Panel, asPanel, chipAt, put, outcomeOf, stepped, panelStep}
+use Rattle.panel.specs.Promises.{EveryRecordStep, EveryRecordsRun}
+use Rattle.panel.specs.Step.{putBack, chipsStep}
 use Rattle.panel.proofs.TwoChips.{two-chips}
-
--- the tests of a step
-module _ (r : Record) (chips ram : List ℕ) where
-  pub chips-wrong : (length chips ≡ 24 → ⊥) → stepChips r chips ram ≡ acted (bareRefusal 1) chips ram
-  unfolding stepChips
-  chips-wrong h = rw (ne-eqb (length chips) 24 h)
-
-  pub image-wrong : (length ram ≡ 640 → ⊥) → stepChips r chips ram ≡ acted (bareRefusal 1) chips ram
-  unfolding stepChips
-  image-wrong h = rw (ne-eqb (length ram) 640 h, or-true (not (eqb (length chips) 24)))
-
-  module _ (size : length chips ≡ 24) (image : length ram ≡ 640) where
-    pub sizes-right : stepChips r chips ram
-        ≡ putBack (r .chip) chips ram (stepBytes r (partAt 12 (r .chip) chips) (partAt 320 (r .chip) ram))
-    unfolding stepChips
-    sizes-right = rw (eq-eqb (length chips) 24 size, eq-eqb (length ram) 640 image)
-
-    -- the step on the parts that were lent, taken back
-    pub on-parts : (from start : ℕ) → from ≡ partStart 12 (r .chip) → start ≡ partStart 320 (r .chip) → (a : BareAnswer) (own part : List ℕ)
-        → acted a own part ≡ stepBytes r (take (from + 12 - from) (drop from chips)) (take (start + 320 - start) (drop start ram))
-        → acted a
-        (take from chips ++ (own ++ drop (from + 12 - from) (drop from chips)))
-        (take start ram ++ (part ++ drop (start + 320 - start) (drop start ram)))
-        ≡ stepChips r chips ram
-    on-parts from start is-from is-start a own part acts =
-        let first = part-lent 12 (r .chip) from chips size is-from in
-        let second = part-lent 320 (r .chip) start ram image is-start in
-        let on-own = rw (first, second) at acts in
-        rw (part-back 12 (r .chip) from chips size is-from own, part-back 320 (r .chip) start ram image is-start part)
-        (ap (putBack (r .chip) chips ram) on-own ∙ sym sizes-right)
 
 module _ (r : Record) (chips ram : List ℕ) (fit : BothPass chips ram) where
   -- the bytes of the chip that the bus record names, and its part of the image
@@ -74,11 +43,11 @@ module _ (r : Record) (chips ram : List ℕ) (fit : BothPass chips ram) where
   own-chip : chipAt (panelIn chips ram) (r .chip) ≡ chipIn own
   own-chip = rw (two-chips chips (fit .size)) (choice-of chipIn (eqb (r .chip) 0) (take 12 chips) (drop 12 chips))
 
-  on-panel : stepChips r chips ram ≡ putBack (r .chip) chips ram (asBytes (outcomeOf (panelIn chips ram) r))
-  unfolding outcomeOf
-  on-panel =
-      rw own-chip
-      (sizes-right r chips ram (fit .size) (fit .image) ∙ ap (putBack (r .chip) chips ram) (every-bytes-step r own ownRam own-right ram-length))
+  -- the step is the panel's outcome, put back
+  on-panel : let o = outcomeOf (panelIn chips ram) r in
+      chipsStep (withRam chips ram) r ≡ asStep o (putBack (r .chip) (withRam chips ram) (withRam (chipBytes (o .answer .chip)) (o .ram)))
+  unfolding outcomeOf chipsStep
+  on-panel = rw own-chip (ap (stepIn (putBack (r .chip) (withRam chips ram))) (every-bytes-step r own ownRam own-right ram-length))
 
   -- the chip and its RAM after it fit again
   next-range : inRange (outcomeOf (panelIn chips ram) r .answer .chip) ≡ true
@@ -126,8 +95,22 @@ every-record-step r chips ram fit =
     let same = on-panel r chips ram fit in
     record {
       number = rw same;
-      kind = rw same;
-      byte = rw same;
+      answer = rw same;
       panel = rw same (put-chip chips ram (r .chip) (o .answer .chip) (o .ram) fit);
       fit = rw same (put-fit chips ram (r .chip) (o .answer .chip) (o .ram) fit (next-range r chips ram fit) (next-ram r chips ram fit));
     }
+
+-- the bytes of a panel, which number 2 lets pass
+record Says (s : BytesAndRam) (p : Panel) : Type 0 where
+  passes : BothPass (s .bytes) (s .ram)
+  is : panelIn (s .bytes) (s .ram) ≡ p
+
+step-says : (s : BytesAndRam) (p : Panel) → Says s p → (r : Record) → AlikeSteps chipsStep panelStep Says (λ (a : Reply). a) s p r
+step-says s p says r =
+    let steps = rw (says .is) at (every-record-step r (s .bytes) (s .ram) (says .passes)) in
+    record { number = steps .number; answer = steps .answer; next = record { passes = steps .fit; is = steps .panel } }
+
+pub every-records-run : EveryRecordsRun
+every-records-run rs chips ram fit =
+    let runs = run-alike chipsStep panelStep Says (λ (a : Reply). a) step-says rs (withRam chips ram) _ (record { passes = fit; is = refl }) in
+    record { number = runs .number; answers = sym (map-id _) ∙ runs .answers ∙ map-id _; panel = runs .state .is; fit = runs .state .passes }

@@ -5,16 +5,17 @@ use mathlib.Core.Bool.{Bool, true, _&&_, _||_}
 use mathlib.Core.List.{List}
 use lib.Dec.{leb, eqb}
 use lib.ListN.{length, take, drop}
+use Rattle.basics.specs.Run.{Step, Run, runOf}
 use Rattle.sed1520.specs.Memory.{ramLength}
 use Rattle.sed1520.specs.Chip.{columnStop}
 use Rattle.sed1520.specs.ChipBytes.{chipLength, bytesPass}
-use Rattle.sed1520.specs.Cycle.{cycleOf}
-use Rattle.sed1520.specs.BytesStep.{Acted}
+use Rattle.sed1520.specs.Cycle.{cycleOf, Reply}
+use Rattle.sed1520.specs.BytesRun.{BytesAndRam, withRam}
 use Rattle.sed1520.specs.declared.registers.Chip.{Chip}
 use Rattle.sed1520.specs.declared.bus.Record.{Record}
 use Rattle.panel.specs.Chips.{chipsLength, chipsBytes, asChips, chipsIn, panelIn, BothPass}
-use Rattle.panel.specs.Panel.{imageLength, Panel, chipAt, ramAt, put, outcomeOf, stepped, after, Whole}
-use Rattle.panel.specs.Step.{stepChips}
+use Rattle.panel.specs.Panel.{imageLength, Panel, chipAt, ramAt, put, outcomeOf, stepped, panelStep, panelRun, after, Whole}
+use Rattle.panel.specs.Step.{chipsStep}
 
 -- each chip has 320 bytes of an image of 640
 abbrev pub EveryHalfWhole : Type 0
@@ -42,16 +43,28 @@ pub record TwoChipsUndo : Type 0 where
       → chipsBytes (chipsIn chips .left) (chipsIn chips .right) ≡ chips
 
 -- what a step over the chips' bytes gives and leaves is what the cycle of the chip named gives and leaves on the panel; and the bytes pass again
-pub record StepsPanel (p : Panel) (r : Record) (s : Acted) : Type 0 where
-  pub number : s .answer .number ≡ outcomeOf p r .answer .number
-  pub kind : s .answer .kind ≡ outcomeOf p r .answer .kind
-  pub byte : s .answer .byte ≡ outcomeOf p r .answer .byte
-  pub panel : panelIn (s .chips) (s .ram) ≡ stepped p r
-  pub fit : BothPass (s .chips) (s .ram)
+pub record StepsPanel (p : Panel) (r : Record) (s : Step BytesAndRam Reply) : Type 0 where
+  pub number : s .number ≡ panelStep p r .number
+  pub answer : s .answer ≡ panelStep p r .answer
+  pub panel : panelIn (s .next .bytes) (s .next .ram) ≡ stepped p r
+  pub fit : BothPass (s .next .bytes) (s .next .ram)
 
 -- a step over bytes of both chips that number 2 lets pass, with the whole image, is a step of the panel as `StepsPanel` says
 abbrev pub EveryRecordStep : Type 0
-EveryRecordStep = (r : Record) (chips ram : List ℕ) → BothPass chips ram → StepsPanel (panelIn chips ram) r (stepChips r chips ram)
+EveryRecordStep =
+    (r : Record) (chips ram : List ℕ) → BothPass chips ram → StepsPanel (panelIn chips ram) r (chipsStep (withRam chips ram) r)
+
+-- what a run over the chips' bytes gives and leaves is what the panel's run gives and leaves; and the bytes pass again
+pub record RunsPanel (p : Panel) (rs : List Record) (run : Run BytesAndRam Reply) : Type 0 where
+  pub number : run .number ≡ panelRun p rs .number
+  pub answers : run .answers ≡ panelRun p rs .answers
+  pub panel : panelIn (run .state .bytes) (run .state .ram) ≡ panelRun p rs .state
+  pub fit : BothPass (run .state .bytes) (run .state .ram)
+
+-- a run of any records over such bytes is the panel's run, as `RunsPanel` says
+abbrev pub EveryRecordsRun : Type 0
+EveryRecordsRun =
+    (rs : List Record) (chips ram : List ℕ) → BothPass chips ram → RunsPanel (panelIn chips ram) rs (runOf chipsStep (withRam chips ram) rs)
 
 -- whether a number is one that a record may be given: 0 for done, 4 to 8, or 14
 abbrev pub isRecordNumber : ℕ → Bool

@@ -1,24 +1,32 @@
--- A bus record given to the bytes of both chips and their image: the chip that it names is lent its own 12 bytes and its own 320 bytes.
+-- Records given to the bytes of both chips and their image: the chip that a record names is lent its own 12 bytes and its own 320 bytes.
 use Prim.Native.Nat.{ℕ}
-use mathlib.Core.Bool.{not, _||_}
 use mathlib.Core.List.{List}
-use lib.Dec.{eqb}
-use lib.ListN.{length}
-use Rattle.sed1520.specs.Memory.{ramLength}
-use Rattle.panel.specs.Panel.{imageLength}
-use Rattle.panel.specs.Chips.{chipsLength}
-use Rattle.sed1520.specs.ChipBytes.{chipLength}
-use Rattle.basics.specs.Choice.{if}
 use Rattle.basics.specs.Halves.{partAt, partPut}
-use Rattle.sed1520.specs.BytesStep.{bareRefusal, Acted, acted, stepBytes}
+use Rattle.basics.specs.Run.{Step}
+use Rattle.sed1520.specs.BytesRun.{BytesAndRam, withRam, bytesStep, runTogether}
+use Rattle.sed1520.specs.ChipBytes.{chipLength}
+use Rattle.sed1520.specs.Cycle.{Reply}
+use Rattle.sed1520.specs.Memory.{ramLength}
+use Rattle.sed1520.specs.Replies.{InPlace}
 use Rattle.sed1520.specs.declared.bus.Record.{Record}
+use Rattle.sed1520.specs.declared.tally.Tally.{Tally}
+use Rattle.panel.specs.Chips.{chipsLength}
+use Rattle.panel.specs.Panel.{imageLength}
 
--- what a step leaves of one chip's bytes and RAM, put in place
-abbrev pub putBack : ℕ → List ℕ → List ℕ → Acted → Acted
-putBack k chips ram own = acted (own .answer) (partPut chipLength k chips (own .chips)) (partPut ramLength k ram (own .ram))
+-- a chip's own bytes and RAM, of those of both
+abbrev pub ownOf : ℕ → BytesAndRam → BytesAndRam
+ownOf k both = withRam (partAt chipLength k (both .bytes)) (partAt ramLength k (both .ram))
 
--- number 1 for lengths that are wrong, then the step of the chip that the record names
-unfoldable pub stepChips : Record → List ℕ → List ℕ → Acted
-stepChips r chips ram =
-    if (not (eqb (length chips) chipsLength) || not (eqb (length ram) imageLength)) (acted (bareRefusal 1) chips ram)
-    (putBack (r .chip) chips ram (stepBytes r (partAt chipLength (r .chip) chips) (partAt ramLength (r .chip) ram)))
+-- a chip's bytes and RAM put in place, the other chip's as they were
+abbrev pub putBack : ℕ → BytesAndRam → BytesAndRam → BytesAndRam
+putBack k both own = withRam (partPut chipLength k (both .bytes) (own .bytes)) (partPut ramLength k (both .ram) (own .ram))
+
+-- a record given to the chip that it names; one that names neither goes to the right chip, which refuses it
+unfoldable pub chipsStep : BytesAndRam → Record → Step BytesAndRam Reply
+chipsStep both r =
+    let own = bytesStep (ownOf (r .chip) both) r in
+    record { number = own .number; answer = own .answer; next = putBack (r .chip) both (own .next) }
+
+-- the records that a trace begins with and that run together, given to the bytes of both chips
+abbrev pub runChips : List ℕ → List ℕ → List ℕ → List ℕ → InPlace Tally
+runChips chips ram trace answers = runTogether chipsStep chipsLength imageLength chips ram trace answers

@@ -3,9 +3,10 @@ use Prim.Native.Nat.{ℕ, _<_}
 use native.Mathlib.Omega.{arith}
 use mathlib.Core.Path.{_≡_}
 use mathlib.Core.List.{List}
-use Rattle.trace.specs.Replay.{InPlace, replayInPlace}
+use Rattle.trace.specs.Replay.{replayInPlace}
+use Rattle.sed1520.specs.Replies.{InPlace}
 use Rattle.trace.proofs.Bounds.{Few, replay-bounded, in-place-bounded}
-use Rattle.trace.specs.declared.Tally.{Tally}
+use Rattle.sed1520.specs.declared.tally.Tally.{Tally}
 use Rattle.frame.proofs.FrameCases.{places-small}
 use Rattle.repaint.proofs.RepaintCases as repaint
 use Rattle.visible.proofs.ChangesCases as changes

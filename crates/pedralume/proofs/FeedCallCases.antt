@@ -10,7 +10,7 @@ use Rattle.basics.proofs.Parts.{rest}
 use Rattle.panel.specs.Chips.{chipsIn}
 use Rattle.basics.specs.Verdict.{Result, result}
 use Rattle.panel.specs.declared.chips.Chips.{Chips}
-use Rattle.trace.specs.Replay.{InPlace, inPlace}
+use Rattle.sed1520.specs.Replies.{InPlace, inPlace}
 use Rattle.trace.specs.Feed.{openOf, closeOf}
 use Rattle.trace.specs.FeedInPlace.{feedIn, partInPlace}
 use Rattle.trace.specs.declared.progress.Progress.{Progress}

@@ -12,10 +12,11 @@ use Rattle.basics.proofs.Tests.{when}
 use Rattle.sed1520.specs.declared.registers.Chip.{Chip}
 use Rattle.panel.specs.Panel.{asPanel, Whole}
 use Rattle.panel.specs.Promises.{isRecordNumber}
-use Rattle.trace.specs.Replay.{tally, ended, endedBytes}
+use Rattle.trace.specs.Replay.{ended, endedBytes}
+use Rattle.sed1520.specs.Replies.{tally}
 use Rattle.trace.specs.Feed.{begun, joinedTo, cutOff, asFeed, feedTable, partTable, PartOutcome, fedWith, notTaken, tookPart, countedOn, movedOn}
 use Rattle.trace.specs.Feed.{stoppedWith, openOf, openPart, partOf, openClose, closeOf}
-use Rattle.trace.specs.declared.Tally.{Tally}
+use Rattle.sed1520.specs.declared.tally.Tally.{Tally}
 use Rattle.trace.specs.declared.progress.Ending.{Ending}
 use Rattle.trace.specs.declared.progress.Ending.the-variants.{Open, Stopped}
 use Rattle.trace.specs.declared.progress.Progress.{Progress}

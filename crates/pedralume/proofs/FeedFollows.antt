@@ -15,7 +15,8 @@ use Rattle.sed1520.specs.declared.registers.Chip.{Chip}
 use Rattle.panel.specs.Chips.{chipsBytes, chipsIn}
 use Rattle.panel.specs.Panel.{asPanel}
 use Rattle.panel.proofs.TwoChips.{two-length, two-there}
-use Rattle.trace.specs.Replay.{InPlace, inPlace, endedBytes}
+use Rattle.trace.specs.Replay.{endedBytes}
+use Rattle.sed1520.specs.Replies.{InPlace, inPlace}
 use Rattle.trace.specs.Feed.{begun, joinedTo, asFeed, feedTable, partTable, PartOutcome, fedBy, fedWith, notTaken, tookPart, stoppedWith}
 use Rattle.trace.specs.Feed.{openOf, openPart, partOf, openClose, closeOf}
 use Rattle.trace.specs.FeedInPlace.{feedIn, partOverBytes, partInPlace}

@@ -12,11 +12,12 @@ use Rattle.basics.proofs.Table.{each-line}
 use Rattle.basics.proofs.Tests.{when}
 use Rattle.sed1520.specs.declared.registers.Chip.{Chip}
 use Rattle.panel.specs.Panel.{asPanel}
-use Rattle.trace.specs.Replay.{InPlace, endedBytes}
+use Rattle.trace.specs.Replay.{endedBytes}
+use Rattle.sed1520.specs.Replies.{InPlace}
 use Rattle.trace.specs.Feed.{begun, joinedTo, asFeed, feedTable, partTable, PartOutcome, fedWith, notTaken, tookPart, movedOn, stoppedWith}
 use Rattle.trace.specs.Feed.{openOf, openPart, partOf, openClose, closeOf}
 use Rattle.trace.specs.FeedInPlace.{feedIn, partInPlace}
-use Rattle.trace.specs.declared.Tally.{Tally}
+use Rattle.sed1520.specs.declared.tally.Tally.{Tally}
 use Rattle.trace.specs.declared.progress.Ending.{Ending}
 use Rattle.trace.specs.declared.progress.Ending.the-variants.{Open, Stopped}
 use Rattle.trace.specs.declared.progress.Progress.{Progress}

@@ -18,7 +18,8 @@ use Rattle.sed1520.specs.ChipBytes.{bytesPass}
 use Rattle.panel.specs.Chips.{chipsIn}
 use Rattle.panel.specs.Panel.{asPanel}
 use Rattle.panel.proofs.TwoChips.{left-passes, right-passes}
-use Rattle.trace.specs.Replay.{ReplayOutcome, inPlace, endedBytes, sizesWrong}
+use Rattle.trace.specs.Replay.{ReplayOutcome, endedBytes, sizesWrong}
+use Rattle.sed1520.specs.Replies.{inPlace}
 use Rattle.trace.specs.Feed.{begun, joinedTo, completedBy, tooMany, progressWrong, feedTable, partTable, fedWith, openOf, tookPart, closeOf}
 use Rattle.trace.specs.FeedInPlace.{feedIn, fedInPlace, partInPlace}
 use Rattle.trace.specs.FeedPromises.{refusesPart}

@@ -10,8 +10,9 @@ use Rattle.sed1520.specs.declared.registers.Chip.{Chip}
 use Rattle.panel.specs.Panel.{asPanel}
 use Rattle.basics.specs.Verdict.{Result, result}
 use Rattle.basics.specs.declared.verdict.Verdict.{Verdict}
-use Rattle.trace.specs.Replay.{InPlace, replayInPlace}
-use Rattle.trace.specs.declared.Tally.{Tally}
+use Rattle.trace.specs.Replay.{replayInPlace}
+use Rattle.sed1520.specs.Replies.{InPlace}
+use Rattle.sed1520.specs.declared.tally.Tally.{Tally}
 use Rattle.frame.specs.Frame.{framed}
 use Rattle.repaint.specs.Repaint.{repaintOf}
 use Rattle.visible.specs.Changes.{changesOf}

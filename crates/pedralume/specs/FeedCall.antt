@@ -10,8 +10,8 @@ use Rattle.basics.specs.Verdict.{Result, result}
 use Rattle.trace.specs.Feed.{openOf, closeOf}
 use Rattle.trace.specs.FeedPromises.{refusesPart}
 use Rattle.trace.specs.FeedInPlace.{feedIn, partInPlace}
-use Rattle.trace.specs.Replay.{InPlace, inPlace}
-use Rattle.trace.specs.declared.Tally.{Tally}
+use Rattle.sed1520.specs.Replies.{InPlace, inPlace}
+use Rattle.sed1520.specs.declared.tally.Tally.{Tally}
 use Rattle.trace.specs.declared.progress.Ending.{Ending}
 use Rattle.trace.specs.declared.progress.Ending.the-variants.{Open, Stopped}
 use Rattle.trace.specs.declared.progress.Progress.{Progress}

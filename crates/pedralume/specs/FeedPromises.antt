@@ -11,7 +11,8 @@ use Rattle.panel.specs.Chips.{chipsLength, chipsBytes}
 use Rattle.basics.specs.Table.{Cause, cause, leftThenRight, First, NoneHolds}
 use Rattle.basics.specs.Verdict.{result}
 use Rattle.sed1520.specs.declared.registers.Chip.{Chip}
-use Rattle.trace.specs.Replay.{inPlace, sizesWrong}
+use Rattle.trace.specs.Replay.{sizesWrong}
+use Rattle.sed1520.specs.Replies.{inPlace}
 use Rattle.trace.specs.Feed.{begun, completedBy, tooMany, openOf, partOf, closeOf}
 use Rattle.trace.specs.FeedInPlace.{feedIn}
 use Rattle.trace.specs.FeedPromises.{refusesPart}

@@ -5,7 +5,7 @@ ghost use lib.ListN.{length};
 ghost use Rattle.pedralume.specs.FeedBytes.{progressLength};
 ghost use Rattle.pedralume.specs.FeedCall.{feedPacked, stays, keptOr, openCall, partCall, closeCall};
 ghost use Rattle.basics.specs.Verdict.{result};
-ghost use Rattle.trace.specs.Replay.{inPlace};
+ghost use Rattle.sed1520.specs.Replies.{inPlace};
 use crate::feed_bytes::FEED_BYTES;
 use crate::feed_bytes::progress_in;
 use crate::feed_bytes::progress_out;

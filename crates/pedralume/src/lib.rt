@@ -7,7 +7,7 @@ mod packing;
 ghost use mathlib.Core.Path.{_≡_};
 ghost use Rattle.pedralume.specs.Call.{replayCall, frameCall, repaintCall, changesCall};
 ghost use Rattle.basics.specs.Verdict.{result};
-ghost use Rattle.trace.specs.Replay.{inPlace};
+ghost use Rattle.sed1520.specs.Replies.{inPlace};
 use crate::packing::pack;
 use panel::chips::CHIPS_BYTES;
 use panel::chips::chips_in;

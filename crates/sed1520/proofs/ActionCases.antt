@@ -1,16 +1,17 @@
 -- The actions of a chip by their cases, as equations.
 use Prim.Native.Nat.{ℕ, _+_, _<_, _≤_}
-use mathlib.Core.Path.{_≡_, refl}
+use mathlib.Core.Path.{_≡_, refl, _∙_}
 use mathlib.Core.Bool.{true, false}
 use mathlib.Core.List.{List}
 use mathlib.Core.Option.{none, some}
 use lib.Dec.{ltb}
-use lib.ListN.{getD, set}
+use lib.ListN.{set}
 use borrow.Author.Tests.{lt-ltb, le-ltb, ne-eqb}
+use Rattle.basics.specs.Choice.{if}
 use Rattle.basics.proofs.Tests.{when}
 use Rattle.sed1520.specs.Chip.{stale, staled, withColumn, withLatch}
 use Rattle.sed1520.specs.Command.{decodeOf, codedCommand}
-use Rattle.sed1520.specs.Memory.{ramIndex}
+use Rattle.sed1520.specs.Memory.{ramIndex, byteAt}
 use Rattle.sed1520.specs.Cycle.{Outcome, outcome, refusal, answered, execute, columnRefusal, commandWrite, dataWrite, afterRead}
 use Rattle.sed1520.specs.declared.registers.Chip.{Chip}
 use Rattle.sed1520.specs.declared.registers.ReadLatch.the-variants.{Fresh}
@@ -52,15 +53,18 @@ module _ (c : Chip) (ram : List ℕ) where
     unfolding dataWrite
     data-write-stored b = rw (lt-ltb (c .column) 80 room)
 
-    -- read-modify-write keeps the column
-    pub after-read-kept : c .modify ≡ true → afterRead c ram ≡ withLatch (Fresh (getD ram (ramIndex (c .page) (c .column)) 0)) c
+    pub after-read-below : afterRead c ram
+        ≡ withLatch (Fresh (byteAt ram (c .page) (c .column))) (withColumn (if (c .modify) (c .column) (c .column + 1)) c)
     unfolding afterRead
-    after-read-kept on = rw (lt-ltb (c .column) 80 room, on)
+    after-read-below = rw (lt-ltb (c .column) 80 room)
+
+    -- read-modify-write keeps the column
+    pub after-read-kept : c .modify ≡ true → afterRead c ram ≡ withLatch (Fresh (byteAt ram (c .page) (c .column))) c
+    after-read-kept on = after-read-below ∙ rw on
 
     pub after-read-counted : c .modify ≡ false
-        → afterRead c ram ≡ withLatch (Fresh (getD ram (ramIndex (c .page) (c .column)) 0)) (withColumn (c .column + 1) c)
-    unfolding afterRead
-    after-read-counted off = rw (lt-ltb (c .column) 80 room, off)
+        → afterRead c ram ≡ withLatch (Fresh (byteAt ram (c .page) (c .column))) (withColumn (c .column + 1) c)
+    after-read-counted off = after-read-below ∙ rw off
 
   module _ (stopped : 80 ≤ c .column) where
     pub data-write-stopped : (b : ℕ) → dataWrite b c ram ≡ outcome (answered 0 0 (staled c)) ram

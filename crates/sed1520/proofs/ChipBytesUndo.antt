@@ -1,12 +1,11 @@
 -- A chip and its 12 bytes: each way undoes the other.
-use Prim.Native.Nat.{ℕ, zero, suc, _+_, _<_}
+use Prim.Native.Nat.{ℕ, _<_}
 use native.Mathlib.Omega.{arith}
 use mathlib.Core.Path.{_≡_, refl, sym, ap, _∙_}
 use mathlib.Core.Bool.{Bool, true, false, _&&_}
-use mathlib.Core.List.{List, [], _∷_}
+use mathlib.Core.List.{List}
 use lib.Dec.{ltb, eqb}
-use lib.ListN.{length, getD, drop, drop-of-length-le}
-use lib.Seq.{drop-cons}
+use lib.ListN.{length, getD}
 use borrow.Author.Tests.{eqb-true, eqb-false, eq-eqb}
 use Rattle.sed1520.specs.Chip.{inRange, fresh, latched}
 use Rattle.sed1520.specs.declared.registers.Chip.{Chip}
@@ -18,6 +17,7 @@ use Rattle.sed1520.specs.ChipBytes.{bit, flag, mark, asLatch, chipBytes,
 use Rattle.sed1520.specs.ChipBytes.{noChip, chipIn, chipOut}
 use Rattle.sed1520.specs.Promises.{ChipBytesUndo}
 use Rattle.sed1520.proofs.Flags.{listed, flag-right, last-right}
+use Rattle.sed1520.proofs.TwelveBytes.{spelled, spelled-out}
 
 pub chip-bytes-length : (c : Chip) → length (chipBytes c) ≡ 12
 unfolding chipBytes
@@ -42,19 +42,9 @@ mark-latch : (t : Bool) (b : ℕ) → mark (if t (Fresh b) (Stale b)) ≡ bit t
 mark-latch true b = refl
 mark-latch false b = refl
 
-latched-latch : (t : Bool) (b : ℕ) → latched (if t (Fresh b) (Stale b)) ≡ b
+pub latched-latch : (t : Bool) (b : ℕ) → latched (if t (Fresh b) (Stale b)) ≡ b
 latched-latch true b = refl
 latched-latch false b = refl
-
--- a list spelled out by its elements
-spelled : ℕ → ℕ → List ℕ → List ℕ
-spelled i zero l = []
-spelled i (suc n) l = getD l i 0 ∷ spelled (suc i) n l
-
-spelled-out : (i n : ℕ) (l : List ℕ) → length l ≡ i + n → drop i l ≡ spelled i n l
-unfolding spelled
-spelled-out i zero l h = drop-of-length-le l {i = i} (omega arith)
-spelled-out i (suc n) l h = drop-cons l i 0 (omega arith) ∙ rw (spelled-out (suc i) n l (omega arith))
 
 pub written-back : (b : List ℕ) → length b ≡ 12 → flagsRight b ≡ true → chipBytes (registersIn b) ≡ b
 unfolding chipBytes registersIn spelled

@@ -4,6 +4,7 @@ pub mod ChipRange
 pub mod ColumnRange
 pub mod ColumnRefusals
 pub mod ColumnSets
+pub mod Counts
 pub mod CountingStops
 pub mod CommandBytes
 pub mod CycleKeeps
@@ -17,10 +18,14 @@ pub mod FreshBytes
 pub mod OneEmptyRead
 pub mod OneRule
 pub mod Records
-pub mod BytesStepCases
 pub mod BytesSteps
+pub mod TogetherCases
+pub mod TwelveBytes
 pub mod ChipBytesUndo
 pub mod SentRecords
 pub mod StepCases
+pub mod Carried
+pub mod DataSteps
+pub mod RunUpto
 pub mod BecomesStale
 pub mod Unmarked

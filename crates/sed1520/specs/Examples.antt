@@ -11,6 +11,7 @@ use Rattle.sed1520.specs.Command.{coded, notCoded, decodeOf}
 use Rattle.sed1520.specs.Memory.{ramLength, byteSet}
 use Rattle.sed1520.specs.Cycle.{Outcome, outcome, refusal, cycleOf, Reply, ChipAndRam, chipStep}
 use Rattle.sed1520.specs.Laws.{sent}
+use Rattle.sed1520.specs.Replies.{reply}
 use Rattle.sed1520.specs.declared.registers.Chip.{Chip}
 use Rattle.sed1520.specs.declared.commands.Opcode.the-variants.{StartLine, Column}
 use Rattle.sed1520.specs.declared.bus.Record.{Record}
@@ -46,10 +47,6 @@ cycled s r = cycleOf r (s .chip) (s .ram)
 -- refused: place 0, kind 0, byte 0, the chip and its RAM as they came. Said of the cycle itself: a run keeps its state there whatever the cycle does
 abbrev pub refused : ChipAndRam → ℕ → Outcome
 refused s n = outcome (refusal n (s .chip)) (s .ram)
-
--- the reply of a kind and a byte
-abbrev pub reply : ℕ → ℕ → Reply
-reply k b = record { kind = k; byte = b }
 
 -- the reply to a write
 abbrev pub wrote : Reply

@@ -4,8 +4,9 @@ pub mod Memory
 pub mod Cycle
 pub mod CycleNumbers
 pub mod ChipBytes
-pub mod BytesStep
 pub mod Records
+pub mod Replies
+pub mod BytesRun
 pub mod Laws
 pub mod Promises
 pub mod LatchPromises

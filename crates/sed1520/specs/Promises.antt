@@ -9,8 +9,8 @@ use Rattle.basics.specs.Counts.{countBelow}
 use Rattle.sed1520.specs.Chip.{inRange, fresh}
 use Rattle.sed1520.specs.ChipBytes.{chipLength, chipBytes, flagsRight, bytesPass, chipIn}
 use Rattle.sed1520.specs.Command.{first, count, coded, notCoded, decodeOf, isCommand, encodeOf}
-use Rattle.sed1520.specs.Cycle.{Outcome, outcome, refusal, stepOf, cycleOf}
-use Rattle.sed1520.specs.BytesStep.{bare, Acted, acted, stepBytes}
+use Rattle.sed1520.specs.Cycle.{Outcome, outcome, refusal, stepOf, cycleOf, asStep}
+use Rattle.sed1520.specs.BytesRun.{withRam, bytesStep}
 use Rattle.sed1520.specs.declared.registers.Chip.{Chip}
 use Rattle.sed1520.specs.declared.commands.Command.{Command}
 use Rattle.sed1520.specs.declared.bus.Record.{Record}
@@ -51,11 +51,9 @@ pub record ChipBytesUndo : Type 0 where
   pub chip-passes : (c : Chip) → bytesPass (chipBytes c) ≡ inRange c
   pub fresh-bytes : chipBytes fresh ≡ 0 ∷ 0 ∷ 1 ∷ 0 ∷ 0 ∷ 0 ∷ 0 ∷ 0 ∷ 0 ∷ 0 ∷ 0 ∷ 0 ∷ []
 
--- what a cycle gives back without its chip, and the chip as 12 bytes
-abbrev pub asBytes : Outcome → Acted
-asBytes o = acted (bare (o .answer)) (chipBytes (o .answer .chip)) (o .ram)
-
--- on bytes of a chip that number 2 lets pass, over 320 bytes of RAM, a step is the cycle of that chip, which is written back
+-- on bytes of a chip that number 2 lets pass, over 320 bytes of RAM, a step gives what that chip's cycle gives, and leaves the bytes of the chip's
+-- successor
 abbrev pub EveryBytesStep : Type 0
 EveryBytesStep =
-    (r : Record) (b ram : List ℕ) → bytesPass b ≡ true → length ram ≡ ramLength → stepBytes r b ram ≡ asBytes (cycleOf r (chipIn b) ram)
+    (r : Record) (b ram : List ℕ) → bytesPass b ≡ true → length ram ≡ ramLength → let o = cycleOf r (chipIn b) ram in
+    bytesStep (withRam b ram) r ≡ asStep o (withRam (chipBytes (o .answer .chip)) (o .ram))

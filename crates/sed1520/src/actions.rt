@@ -50,7 +50,7 @@ impl Answer {
 
 // The number by which a byte is refused as a column set, else 0: 8 while read-modify-write is on, then 14 for a column that
 // the RAM does not have.
-fn column_refusal(byte: u8, modify: bool) -> u8
+pub(crate) fn column_refusal(byte: u8, modify: bool) -> u8
     ensures { λ r. ⌜ r ≡ columnRefusal byte modify ⌝ }
 {
     let set = Opcode::Column;
@@ -120,7 +120,7 @@ impl Chip {
     }
 
     // D6: forward. D5: display off. The other bits are 0.
-    fn status_byte(self) -> u8
+    pub(crate) fn status_byte(self) -> u8
         ensures { λ r. ⌜ r ≡ statusByte self ⌝ }
     {
         if self.reverse {

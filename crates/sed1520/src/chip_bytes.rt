@@ -9,14 +9,14 @@ use crate::registers::ReadLatch;
 pub const CHIP_BYTES: usize = 12;
 
 // A flag as a byte.
-fn bit(flag: bool) -> u8
+pub(crate) fn bit(flag: bool) -> u8
     ensures { λ r. ⌜ r ≡ bit flag ⌝ }
 {
     if flag { 1 } else { 0 }
 }
 
 // 1 for a fresh latch.
-pub(crate) fn mark(latch: ReadLatch) -> u8
+fn mark(latch: ReadLatch) -> u8
     ensures { λ r. ⌜ r ≡ mark latch ⌝ }
 {
     match latch {

@@ -12,7 +12,7 @@ use Rattle.sed1520.specs.Records.{front, wholeRecords}
 use Rattle.sed1520.proofs.Records.{records-length, record-at, records-prefix}
 use Rattle.trace.specs.Replay.{panelAfter, ended, replayOf}
 use Rattle.trace.specs.Promises.{Replayable, repliesTo, AfterEach, AfterEachRecord}
-use Rattle.trace.proofs.Counts.{differing-prefix}
+use Rattle.sed1520.proofs.Counts.{differing-prefix}
 use Rattle.trace.proofs.ReplayNumbers.{runs}
 
 -- no more replies than the trace has records

@@ -14,7 +14,8 @@ use Rattle.basics.proofs.Tests.{tested}
 use Rattle.panel.specs.Panel.{Whole}
 use Rattle.panel.specs.Panel.{Panel}
 use Rattle.panel.specs.Trace.{traceRun}
-use Rattle.trace.specs.Replay.{ended, repliesBytes}
+use Rattle.trace.specs.Replay.{ended}
+use Rattle.sed1520.specs.Replies.{repliesBytes}
 use Rattle.trace.specs.Feed.{stoppedWith, closeOf}
 use Rattle.trace.specs.FeedPromises.{Part, joinedBytes, feedAfter, fedAfter, Short, AtAnyCut, ClosesAfter, FeedsClose}
 use Rattle.trace.specs.declared.feed.Feed.{Feed}

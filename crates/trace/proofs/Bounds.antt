@@ -1,21 +1,24 @@
 -- The place and the counts of any replay are at most the records that a trace can have.
-use Prim.Native.Nat.{ℕ, _/_, _≤_}
+use Prim.Native.Nat.{ℕ, _*_, _/_, _≤_}
 use native.Mathlib.Omega.{arith}
-use mathlib.Core.Path.{_≡_}
+use mathlib.Core.Path.{_≡_, _∙_}
 use mathlib.Core.Bool.{Bool}
 use mathlib.Core.List.{List}
-use lib.ListN.{length}
+use lib.ListN.{length, length-append, length-drop}
+use Rattle.basics.proofs.Run.{answers-bound}
 use Rattle.basics.proofs.Table.{EachLine, each-line, of-first}
 use Rattle.sed1520.specs.Chip.{outOfRange}
 use Rattle.sed1520.specs.Records.{wholeRecords}
 use Rattle.panel.specs.Chips.{panelIn}
-use Rattle.panel.specs.Panel.{Panel}
+use Rattle.panel.specs.Panel.{Panel, panelStep, panelRun}
 use Rattle.trace.specs.Replay.{ReplayOutcome, refusedAt, ended, endedBytes, replayTable, replayOf}
-use Rattle.trace.specs.Replay.{InPlace, inPlace, nothingRun, replayBytesTable, replayInPlace}
-use Rattle.trace.specs.Promises.{repliesTo}
-use Rattle.trace.specs.declared.Tally.{Tally}
-use Rattle.trace.proofs.AfterEach.{replies-bound}
-use Rattle.trace.proofs.Counts.{compared-bound, differing-bound}
+use Rattle.trace.specs.Replay.{replayBytesTable, replayInPlace}
+use Rattle.sed1520.specs.Replies.{repliesBytes, InPlace, inPlace, nothingRun}
+use Rattle.sed1520.specs.declared.bus.Record.{Record}
+use Rattle.sed1520.specs.declared.tally.Tally.{Tally}
+use Rattle.sed1520.proofs.Records.{records-length}
+use Rattle.sed1520.proofs.Counts.{compared-bound, differing-bound}
+use Rattle.trace.proofs.Joined.{replies-length}
 use Rattle.trace.proofs.ReplayNumbers.{table, sizes-right}
 
 pub record Few (most place compared differing : ℕ) : Type 0 where
@@ -31,20 +34,37 @@ abbrev Bounded : ReplayOutcome → Type 0
 Bounded o = FewIn 16384 o
 
 -- the records run: no more than there are
-ended-few : (p : Panel) (bytes answers : List ℕ) → FewIn (length bytes / 4) (endedBytes p bytes answers)
+records-few : (p : Panel) (rs : List Record) (answers : List ℕ) → FewIn (length rs) (ended (panelRun p rs) rs answers)
 unfolding ended
-ended-few p bytes answers =
-    let given = repliesTo p bytes in
-    let n = replies-bound p bytes in
+records-few p rs answers =
+    let given = panelRun p rs .answers in
+    let n = answers-bound panelStep rs p in
     record {
       place-few = n;
       compared-few = omega (arith, compared-bound given);
-      differing-few = omega (arith, differing-bound given (wholeRecords bytes));
+      differing-few = omega (arith, differing-bound given rs);
     }
 
-pub tally-few : {r : Tally} (p : Panel) (bytes answers : List ℕ) → let o = endedBytes p bytes answers in
-    r ≡ o .answer → Few (length bytes / 4) (r .place) (r .compared) (r .differing)
-tally-few p bytes answers e = rw e (ended-few p bytes answers)
+ended-few : (p : Panel) (bytes answers : List ℕ) → FewIn (length bytes / 4) (endedBytes p bytes answers)
+ended-few p bytes answers = rw (records-length (length bytes / 4) bytes) at (records-few p (wholeRecords bytes) answers)
+
+-- so are the place and the counts of a tally of theirs
+pub answered-few : {r : Tally} (p : Panel) (rs : List Record) (answers : List ℕ) → r ≡ ended (panelRun p rs) rs answers .answer
+    → Few (length rs) (r .place) (r .compared) (r .differing)
+answered-few p rs answers e = rw e (records-few p rs answers)
+
+pub tally-few : {r : Tally} (p : Panel) (bytes answers : List ℕ) → r ≡ endedBytes p bytes answers .answer
+    → Few (length bytes / 4) (r .place) (r .compared) (r .differing)
+tally-few p bytes answers e = rw (records-length (length bytes / 4) bytes) at (answered-few p (wholeRecords bytes) answers e)
+
+-- the answer buffer keeps its length
+pub answers-length : (p : Panel) (rs : List Record) (answers : List ℕ) → 2 * length rs ≤ length answers
+    → length (ended (panelRun p rs) rs answers .lent .answers) ≡ length answers
+unfolding ended
+answers-length p rs answers room =
+    let given = panelRun p rs .answers in
+    length-append (repliesBytes given) _
+    ∙ omega (arith, replies-length given, length-drop (2 * length given) answers, answers-bound panelStep rs p)
 
 ended-bounded : (p : Panel) (trace answers : List ℕ) → length trace ≤ 65536 → Bounded (endedBytes p trace answers)
 ended-bounded p trace answers h =

@@ -22,7 +22,8 @@ use Rattle.sed1520.specs.Records.{front, wholeRecords}
 use Rattle.panel.proofs.PanelLaws.{after-whole}
 use Rattle.sed1520.proofs.Records.{records-length}
 use Rattle.panel.specs.Trace.{traceRun}
-use Rattle.trace.specs.Replay.{comparedIn, differingIn, replyBytes, repliesBytes, ended, endedBytes, tally}
+use Rattle.trace.specs.Replay.{ended, endedBytes}
+use Rattle.sed1520.specs.Replies.{comparedIn, differingIn, replyBytes, repliesBytes, tally}
 use Rattle.trace.specs.Feed.{keeping, cutOff, joinedTo, completedBy, asFeed, partTable, PartOutcome, fedBy}
 use Rattle.trace.specs.Feed.{notTaken, movedOn, tookPart, partOf}
 use Rattle.trace.specs.FeedPromises.{Part, given, ownAnswers, refusesPart, feedAfter, fedAfter}
@@ -30,7 +31,7 @@ use Rattle.trace.specs.declared.progress.Progress.{Progress}
 use Rattle.trace.specs.declared.progress.Ending.the-variants.{Open, Stopped}
 use Rattle.trace.specs.declared.feed.Feed.{Feed}
 use Rattle.trace.specs.declared.feed.Fed.{Fed}
-use Rattle.trace.proofs.Counts.{compared-bound, compared-join, differing-compared, differing-join, differing-front}
+use Rattle.sed1520.proofs.Counts.{compared-bound, compared-join, differing-compared, differing-join, differing-front}
 use Rattle.trace.proofs.FeedCases.{ofFeed, StateRight, right-part, part-refuses, part-refused, part-taken}
 use Rattle.trace.proofs.Joined.{replies-length}
 use Rattle.trace.proofs.KeptOver.{cut-off-length, cut-off-on, records-on, kept-back}

@@ -9,7 +9,7 @@ use Rattle.basics.specs.Run.{runOf}
 use Rattle.panel.specs.Panel.{Whole}
 use Rattle.panel.specs.Panel.{Panel}
 use Rattle.panel.specs.Trace.{traceRun}
-use Rattle.trace.specs.Replay.{comparedIn, differingIn, repliesBytes}
+use Rattle.sed1520.specs.Replies.{comparedIn, differingIn, repliesBytes}
 use Rattle.trace.specs.Feed.{begun, asFeed, openOf, PartOutcome, partOutcome, fedBy}
 use Rattle.trace.specs.FeedPromises.{Part, joinedBytes, given, fedParts, Taken, fedAfter}
 use Rattle.trace.specs.FeedPromises.{FeedsRun, BuffersFit, Short, FittingTaken}

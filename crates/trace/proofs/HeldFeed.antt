@@ -21,11 +21,11 @@ use denote.Laws.{Is, shows, Makes}
 use denote.Steps.{only, opens, closes, owned, peeks}
 use denote.Struct.Steps.{spelt}
 use denote.Struct.Laws as LL
-use Rattle.trace.specs.declared.Tally.{Tally}
+use Rattle.sed1520.specs.declared.tally.Tally.{Tally}
 use Rattle.trace.specs.declared.feed.Feed.{Feed}
 use Rattle.trace.specs.declared.feed.Fed.{Fed}
-use Rattle.trace.proofs.Tally as R
-use Rattle.trace.proofs.Tally.Laws as R′
+use Rattle.sed1520.proofs.tally.Tally as R
+use Rattle.sed1520.proofs.tally.Tally.Laws as R′
 use Rattle.trace.proofs.feed.Feed as F
 use Rattle.trace.proofs.feed.Feed.Laws as F′
 use Rattle.trace.proofs.feed.Fed as G

@@ -20,10 +20,11 @@ use Rattle.panel.specs.Chips.{chipsBytes, chipsIn, panelIn, BothPass}
 use Rattle.panel.specs.Panel.{Panel, asPanel}
 use Rattle.panel.specs.declared.chips.Chips.{Chips}
 use Rattle.panel.proofs.TwoChips.{two-chips, left-passes, right-passes, two-length, two-there, two-back, two-pass}
-use Rattle.trace.specs.declared.Tally.{Tally}
+use Rattle.sed1520.specs.declared.tally.Tally.{Tally}
 use Rattle.trace.specs.Refusals.{ReplayBytesNumbers, EveryRefusalBefore}
 use Rattle.trace.specs.Replay.{ReplayOutcome, panelAfter, endedAt, refusedAt, endedBytes, tallyVerdict, replayTable, replayOf}
-use Rattle.trace.specs.Replay.{InPlace, inPlace, tally, nothingRun, rewritten, overBytes, replayBytesTable, replayInPlace}
+use Rattle.trace.specs.Replay.{rewritten, overBytes, replayBytesTable, replayInPlace}
+use Rattle.sed1520.specs.Replies.{InPlace, inPlace, tally, nothingRun}
 use Rattle.trace.proofs.ReplayNumbers.{table, sizes-right}
 
 -- the bytes of the chips that they are, are themselves

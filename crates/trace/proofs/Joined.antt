@@ -12,8 +12,9 @@ use Rattle.sed1520.specs.Cycle.{Reply}
 use Rattle.panel.specs.Panel.{Panel, panelStep, panelRun}
 use Rattle.sed1520.specs.Records.{front}
 use Rattle.sed1520.specs.declared.bus.Record.{Record}
-use Rattle.trace.specs.Replay.{ReplayOutcome, replyBytes, repliesBytes, endedAt, panelAfter, ended}
-use Rattle.trace.proofs.Counts.{compared-join, differing-join, differing-front}
+use Rattle.trace.specs.Replay.{ReplayOutcome, endedAt, panelAfter, ended}
+use Rattle.sed1520.specs.Replies.{replyBytes, repliesBytes}
+use Rattle.sed1520.proofs.Counts.{compared-join, differing-join, differing-front}
 
 -- the bytes of replies
 pub replies-length : (given : List Reply) → length (repliesBytes given) ≡ 2 * length given

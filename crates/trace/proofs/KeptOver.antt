@@ -10,7 +10,8 @@ use Rattle.basics.specs.Run.{runOf}
 use Rattle.panel.specs.Panel.{Panel}
 use Rattle.sed1520.specs.Records.{wholeRecords}
 use Rattle.sed1520.proofs.Records.{front-there, whole-records-join}
-use Rattle.trace.specs.Replay.{comparedIn, differingIn, endedAt, ended, endedBytes}
+use Rattle.trace.specs.Replay.{endedAt, ended, endedBytes}
+use Rattle.sed1520.specs.Replies.{comparedIn, differingIn}
 use Rattle.trace.specs.Feed.{keeping, keptBytes, joinedTo, cutOff}
 use Rattle.trace.specs.declared.progress.Ending.{Ending}
 use Rattle.trace.specs.declared.progress.Progress.{Progress}

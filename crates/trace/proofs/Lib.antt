@@ -2,8 +2,7 @@ pub mod AfterEach
 pub mod Bounds
 pub mod InPlace
 pub mod ReplayNumbers
-pub mod Counts
-pub mod Upto
+pub mod RunOn
 pub mod Ends
 pub mod Joined
 pub mod KeptOver

@@ -15,8 +15,9 @@ use Rattle.basics.proofs.Parts.{rest}
 use Rattle.panel.proofs.PanelLaws.{after-whole}
 use Rattle.sed1520.proofs.Records.{records-length, whole-records-join}
 use Rattle.panel.proofs.TwoChips.{left-passes, right-passes, two-fit}
-use Rattle.trace.specs.declared.Tally.{Tally}
-use Rattle.trace.specs.Replay.{ReplayOutcome, panelAfter, ended, endedBytes, InPlace, inPlace, tally, rewritten, overBytes}
+use Rattle.sed1520.specs.declared.tally.Tally.{Tally}
+use Rattle.trace.specs.Replay.{ReplayOutcome, panelAfter, ended, endedBytes, rewritten, overBytes}
+use Rattle.sed1520.specs.Replies.{InPlace, inPlace, tally}
 use Rattle.trace.proofs.InPlace.{panel-there}
 use Rattle.trace.proofs.Joined.{ended-all, ended-join, ended-cut}
 

@@ -14,10 +14,11 @@ use Rattle.sed1520.specs.declared.registers.Chip.{Chip}
 use Rattle.panel.specs.Chips.{chipsBytes, panelIn}
 use Rattle.panel.specs.Panel.{Panel, asPanel}
 use Rattle.panel.proofs.TwoChips.{two-length, two-there}
-use Rattle.trace.specs.Replay.{InPlace, inPlace, endedBytes, rewritten, overBytes}
+use Rattle.trace.specs.Replay.{endedBytes, rewritten, overBytes}
+use Rattle.sed1520.specs.Replies.{InPlace, inPlace}
 use Rattle.trace.specs.Feed.{joinedTo, asFeed, partTable, asFed, PartOutcome, partOutcome, notTaken, tookPart, movedOn, openPart, partOf}
 use Rattle.trace.specs.FeedInPlace.{feedIn, fedInPlace, partOverBytes, partInPlace}
-use Rattle.trace.specs.declared.Tally.{Tally}
+use Rattle.sed1520.specs.declared.tally.Tally.{Tally}
 use Rattle.trace.specs.declared.progress.Progress.{Progress}
 use Rattle.trace.specs.declared.progress.Ending.{Ending}
 use Rattle.trace.specs.declared.progress.Ending.the-variants.{Open, Stopped}

@@ -12,8 +12,9 @@ use Rattle.basics.specs.declared.verdict.Verdict.{Verdict}
 use Rattle.sed1520.specs.declared.registers.Chip.{Chip}
 use Rattle.panel.specs.Panel.{asPanel}
 use Rattle.sed1520.specs.Chip.{outOfRange}
-use Rattle.trace.specs.Replay.{ReplayOutcome, Lent, lent, endedBytes, sizesWrong, tally}
-use Rattle.trace.specs.declared.Tally.{Tally}
+use Rattle.trace.specs.Replay.{ReplayOutcome, endedBytes, sizesWrong}
+use Rattle.sed1520.specs.Replies.{Lent, lent, tally}
+use Rattle.sed1520.specs.declared.tally.Tally.{Tally}
 use Rattle.trace.specs.declared.progress.Ending.{Ending}
 use Rattle.trace.specs.declared.progress.Ending.the-variants.{Open, Stopped}
 use Rattle.trace.specs.declared.progress.Progress.{Progress}
@@ -88,7 +89,7 @@ asFeed left right t = record { left = left; right = right; progress = t }
 abbrev pub feedTable : Bool → Bool → Progress → List Cause
 feedTable left right t = leftThenRight 2 left right (cause 2 3 (progressWrong t) ∷ [])
 
--- what a part is refused by before its first record, by the same and by the lengths of image, part and answers: numbers 1, 13 and 2
+-- numbers 1, 13 and 2 of a part, which refuse it before its first record: by what `feedTable` takes and the lengths of image, part and answers
 abbrev pub partTable : Bool → Bool → Progress → ℕ → ℕ → ℕ → List Cause
 partTable left right t ram part answers =
     let more = completedBy (t .kept) part in

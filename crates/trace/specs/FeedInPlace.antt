@@ -6,7 +6,8 @@ use lib.Dec.{eqb}
 use lib.ListN.{length}
 use Rattle.basics.specs.Choice.{if}
 use Rattle.panel.specs.Chips.{chipsLength, chipsIn}
-use Rattle.trace.specs.Replay.{InPlace, inPlace, rewritten}
+use Rattle.trace.specs.Replay.{rewritten}
+use Rattle.sed1520.specs.Replies.{InPlace, inPlace}
 use Rattle.trace.specs.Feed.{PartOutcome, soFar, asFeed, unlessStopped, openPart}
 use Rattle.trace.specs.declared.progress.Progress.{Progress}
 use Rattle.trace.specs.declared.feed.Feed.{Feed}

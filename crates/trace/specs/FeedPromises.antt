@@ -14,7 +14,8 @@ use Rattle.sed1520.specs.Records.{front, wholeRecords}
 use Rattle.sed1520.specs.declared.registers.Chip.{Chip}
 use Rattle.trace.specs.Promises.{Replayable, repliesTo}
 use Rattle.panel.specs.Trace.{traceLimit, traceRun}
-use Rattle.trace.specs.Replay.{comparedIn, differingIn, repliesBytes, panelAfter, replayOf, tally}
+use Rattle.trace.specs.Replay.{panelAfter, replayOf}
+use Rattle.sed1520.specs.Replies.{comparedIn, differingIn, repliesBytes, tally}
 use Rattle.trace.specs.Feed.{keeping, cutOff, completedBy, mostRecords, asFeed, fedWith, openOf, PartOutcome, partOutcome, fedBy}
 use Rattle.trace.specs.Feed.{notTaken, partOf}
 use Rattle.trace.specs.Feed.{closeOf}

@@ -7,7 +7,8 @@ use Rattle.sed1520.specs.Cycle.{Reply}
 use Rattle.panel.specs.Panel.{Panel, outcomeOf, stepped, after, Whole}
 use Rattle.panel.specs.Trace.{traceLimit, traceRun}
 use Rattle.sed1520.specs.Records.{front, wholeRecords}
-use Rattle.trace.specs.Replay.{comparedIn, differingIn, repliesBytes, endedAt, panelAfter, replayOf}
+use Rattle.trace.specs.Replay.{endedAt, panelAfter, replayOf}
+use Rattle.sed1520.specs.Replies.{comparedIn, differingIn, repliesBytes}
 
 -- a panel, a trace and an answer buffer that numbers 1 to 3 let pass
 pub record Replayable (p : Panel) (trace answers : List ℕ) : Type 0 where

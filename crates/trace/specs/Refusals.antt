@@ -12,7 +12,8 @@ use Rattle.panel.specs.Panel.{Panel, asPanel}
 use Rattle.sed1520.specs.Chip.{outOfRange}
 use Rattle.sed1520.specs.declared.registers.Chip.{Chip}
 use Rattle.trace.specs.Feed.{begun, joinedTo, feedTable, partTable, openOf, tookPart, partOf, closeOf}
-use Rattle.trace.specs.Replay.{inPlace, nothingRun, tallyVerdict, endedBytes, replayTable, replayOf, replayBytesTable, replayInPlace}
+use Rattle.trace.specs.Replay.{tallyVerdict, endedBytes, replayTable, replayOf, replayBytesTable, replayInPlace}
+use Rattle.sed1520.specs.Replies.{inPlace, nothingRun}
 use Rattle.trace.specs.declared.progress.Ending.the-variants.{Open}
 use Rattle.trace.specs.declared.feed.Feed.{Feed}
 

@@ -1,7 +1,7 @@
 -- The replay of a trace: the records one after the other, each answered as its cycle answers it, up to the first refused record.
-use Prim.Native.Nat.{ℕ, _+_, _*_, _/_}
-use mathlib.Core.Bool.{Bool, not, _&&_, _||_}
-use mathlib.Core.List.{List, [], _∷_, _++_, flatMap}
+use Prim.Native.Nat.{ℕ, _*_, _/_}
+use mathlib.Core.Bool.{Bool, not, _&&_}
+use mathlib.Core.List.{List, [], _∷_}
 use lib.Dec.{ltb, eqb}
 use lib.ListN.{length, take, drop}
 use Rattle.basics.specs.Choice.{if}
@@ -13,55 +13,19 @@ use Rattle.sed1520.specs.Chip.{outOfRange}
 use Rattle.sed1520.specs.ChipBytes.{chipLength, bytesPass}
 use Rattle.sed1520.specs.Cycle.{Reply}
 use Rattle.sed1520.specs.Records.{wholeRecords}
+use Rattle.sed1520.specs.Replies.{tally, nothingRun, tallied, answersLeft, Lent, lent, InPlace, inPlace}
 use Rattle.sed1520.specs.declared.bus.Record.{Record}
 use Rattle.sed1520.specs.declared.registers.Chip.{Chip}
 use Rattle.panel.specs.Chips.{chipsLength, chipsBytes, asChips, panelIn}
 use Rattle.panel.specs.Panel.{Panel, asPanel}
 use Rattle.panel.specs.Trace.{traceRun, traceSizesWrong, traceTable}
 use Rattle.panel.specs.declared.chips.Chips.{Chips}
-use Rattle.trace.specs.declared.Tally.{Tally}
+use Rattle.sed1520.specs.declared.tally.Tally.{Tally}
 use Rattle.trace.specs.declared.Replayed.{Replayed}
-
--- kinds 1 and 3 are compared with the byte that the recorder saw
-abbrev pub isCompared : ℕ → Bool
-isCompared kind = eqb kind 1 || eqb kind 3
-
--- how many reads were compared
-unfoldable pub comparedIn : List Reply → ℕ
-comparedIn [] = 0
-comparedIn (a ∷ more) = if (isCompared (a .kind)) 1 0 + comparedIn more
-
--- how many of the compared reads differ from their record's byte
-unfoldable pub differingIn : List Reply → List Record → ℕ
-differingIn [] rs = 0
-differingIn (a ∷ more) [] = 0
-differingIn (a ∷ more) (r ∷ rs) = if (isCompared (a .kind) && not (eqb (a .byte) (r .byte))) 1 0 + differingIn more rs
-
--- a reply as it stands in the answer buffer: kind, byte
-abbrev pub replyBytes : Reply → List ℕ
-replyBytes a = a .kind ∷ a .byte ∷ []
-
--- replies one after the other as they stand in the answer buffer
-abbrev pub repliesBytes : List Reply → List ℕ
-repliesBytes replies = flatMap replyBytes replies
-
--- a tally of a number, its place and both counts
-abbrev pub tally : ℕ → ℕ → ℕ → ℕ → Tally
-tally n at compared differing = record { number = n; place = at; compared = compared; differing = differing }
 
 -- the number and the place of a tally
 abbrev pub tallyVerdict : Tally → Verdict
 tallyVerdict r = verdict (r .number) (r .place)
-
--- what a replay or a part of a feed runs on: both chips or a feed, by value or as bytes, the image of both chips and the answer buffer
-pub record Lent (S : Type 0) : Type 0 where
-  pub state : S
-  pub ram : List ℕ
-  pub answers : List ℕ
-
--- a state, an image and an answer buffer, as what is lent
-abbrev pub lent : {S : Type 0} → S → List ℕ → List ℕ → Lent S
-lent s ram answers = record { state = s; ram = ram; answers = answers }
 
 -- what a replay by value gives back and leaves
 abbrev pub ReplayOutcome : Type 0
@@ -83,8 +47,8 @@ refusedAt n at p answers = endedAt n at 0 0 p answers
 -- how a replay ends by the run of its records: done, or refused at a record, with the replies before it; the answer bytes past them stay
 unfoldable pub ended : Run Panel Reply → List Record → List ℕ → ReplayOutcome
 ended r rs answers =
-    endedAt (r .number) (length (r .answers)) (comparedIn (r .answers)) (differingIn (r .answers) rs) (r .state)
-    (repliesBytes (r .answers) ++ drop (2 * length (r .answers)) answers)
+    result (tallied (r .number) (r .answers) rs)
+    (lent (asChips (r .state .left) (r .state .right)) (r .state .ram) (answersLeft (r .answers) answers))
 
 -- how the run of the whole records in some bytes ends on a panel
 abbrev pub endedBytes : Panel → List ℕ → List ℕ → ReplayOutcome
@@ -108,18 +72,6 @@ replayOf p trace answers =
 -- what the code's replay by value gives back and leaves in what it was lent, as an outcome
 abbrev pub replayOutcome : Replayed → List ℕ → List ℕ → ReplayOutcome
 replayOutcome r ram answers = endedAt (r .number) (r .place) (r .compared) (r .differing) (asPanel (r .left) (r .right) ram) answers
-
--- what a call over chip bytes gives back, and what it leaves in the bytes, the image and the answer buffer
-abbrev pub InPlace : Type 0 → Type 0
-InPlace A = Result A (Lent (List ℕ))
-
--- an answer with what a call leaves in chip bytes, image and answer buffer
-abbrev pub inPlace : {A : Type 0} → A → List ℕ → List ℕ → List ℕ → InPlace A
-inPlace a chips ram answers = result a (lent chips ram answers)
-
--- the tally of a call that ran no record: a number, its place, and both counts 0
-abbrev pub nothingRun : ℕ → ℕ → Tally
-nothingRun n at = tally n at 0 0
 
 -- bytes of both chips that number 2 lets pass become those of a panel's chips; any others stay
 abbrev pub rewritten : List ℕ → Chip → Chip → List ℕ

@@ -8,13 +8,11 @@ ghost use Rattle.panel.specs.Trace.{traceLimit};
 ghost use Rattle.basics.specs.Choice.{if};
 ghost use Rattle.panel.specs.Chips.{chipsLength, panelIn, BothPass};
 ghost use Rattle.basics.specs.Verdict.{verdict};
-ghost use Rattle.trace.specs.Replay.{inPlace, endedBytes, overBytes};
+ghost use Rattle.trace.specs.Replay.{endedBytes, overBytes};
+ghost use Rattle.sed1520.specs.Replies.{inPlace};
 ghost use Rattle.trace.specs.Feed.{joinedTo, completedBy, tooMany, progressWrong, stateVerdict, partVerdict, fedWith};
 ghost use Rattle.trace.specs.Feed.{openOf, partOutcome, openPart, partOf, stoppedWith, openClose, closeOf};
 ghost use Rattle.trace.specs.FeedInPlace.{fedInPlace, feedIn, partOverBytes, partInPlace};
-use crate::ANSWER_BYTES;
-use crate::Tally;
-use crate::nothing_run;
 use crate::progress::Ending;
 use crate::progress::Progress;
 use crate::run;
@@ -27,6 +25,8 @@ use sed1520::bus::RECORD_BYTES;
 use sed1520::chip_bytes::CHIP_BYTES;
 use sed1520::chip_bytes::bytes_pass;
 use sed1520::registers::Chip;
+use sed1520::tally::ANSWER_BYTES;
+use sed1520::tally::Tally;
 
 // The most records that a feed may take.
 pub const MAX_RECORDS: u64 = 4294967295;
@@ -125,7 +125,7 @@ fn run_part(
         return run(chips, ram, part, answers);
     }
     if kept + part.len() < RECORD_BYTES {
-        return nothing_run(0, 0);
+        return Tally::nothing_run(0, 0);
     }
     let first = [
         progress.byte_at(part, 0),

@@ -2,8 +2,8 @@
 // feed back.
 ghost use mathlib.Core.Path.{_≡_};
 ghost use Rattle.trace.specs.Feed.{asFed, partOutcome, partOf, closeOf};
-use crate::Tally;
 use crate::feed::Feed;
+use sed1520::tally::Tally;
 
 // The next part given to a feed that its owner holds: the by-value call, put back.
 pub fn give_part(feed: &mut Feed, ram: &mut [u8], part: &[u8], answers: &mut [u8]) -> Tally

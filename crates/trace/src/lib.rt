@@ -6,28 +6,23 @@ pub mod progress;
 
 ghost use Prim.Native.Nat.{_*_, _/_, _≤_};
 ghost use mathlib.Core.Path.{_≡_};
-ghost use mathlib.Core.Bool.{_&&_, not};
-ghost use lib.Dec.{eqb};
 ghost use lib.ListN.{length};
 ghost use Rattle.panel.specs.Trace.{traceLimit};
-ghost use Rattle.basics.specs.Choice.{if};
 ghost use Rattle.panel.specs.Chips.{panelIn, BothPass};
 ghost use Rattle.panel.specs.Panel.{asPanel};
-ghost use Rattle.trace.specs.Replay.{isCompared, nothingRun, replayOutcome, endedBytes, sizesWrong, replayOf};
-ghost use Rattle.trace.specs.Replay.{inPlace, overBytes, replayInPlace};
+ghost use Rattle.sed1520.specs.Replies.{inPlace};
+ghost use Rattle.trace.specs.Replay.{replayOutcome, endedBytes, sizesWrong, replayOf, overBytes, replayInPlace};
 use panel::chips::CHIPS_BYTES;
 use panel::chips::chips_bytes;
 use panel::chips::chips_in;
-use panel::step::step_of_tested_chips;
+use panel::step::run_of_tested_chips;
 use panel::trace::trace_verdict;
 use sed1520::bus::RECORD_BYTES;
-use sed1520::bus::Record;
 use sed1520::chip_bytes::CHIP_BYTES;
 use sed1520::chip_bytes::bytes_pass;
 use sed1520::registers::Chip;
-
-// The bytes of a record's answer.
-pub const ANSWER_BYTES: usize = 2;
+use sed1520::tally::ANSWER_BYTES;
+use sed1520::tally::Tally;
 
 // What a replay gives back beside what it was lent: the number and its place, how many reads were compared with the
 // trace and how many of these differ, and both chips.
@@ -38,32 +33,6 @@ pub struct Replayed {
     pub differing: u64,
     pub left: Chip,
     pub right: Chip,
-}
-
-// What a replay over chip bytes, and each call of a feed, gives back beside what it was lent.
-pub struct Tally {
-    pub number: u8,
-    pub place: u64,
-    pub compared: u64,
-    pub differing: u64,
-}
-
-// Whether an answer of this kind is compared with the trace, as a count.
-fn compares(kind: u8) -> u64
-    ensures { λ r. ⌜ r ≡ if (isCompared kind) 1 0 ⌝ }
-{
-    match kind {
-        1 => 1,
-        3 => 1,
-        _ => 0,
-    }
-}
-
-// Whether an answer is compared with the trace and differs from it, as a count.
-fn differs(kind: u8, byte: u8, recorded: u8) -> u64
-    ensures { λ r. ⌜ r ≡ if (isCompared kind && not (eqb byte recorded)) 1 0 ⌝ }
-{
-    if byte == recorded { 0 } else { compares(kind) }
 }
 
 // The records one after the other on chip bytes that number 2 lets pass, up to the first that is refused.
@@ -80,45 +49,29 @@ pub(crate) fn run(chips: &mut [u8], ram: &mut [u8], trace: &[u8], answers: &mut 
     let mut at = 0;
     let count = trace.len() / RECORD_BYTES;
     while at < count {
-        let from = RECORD_BYTES * at;
-        let bus = Record {
-            lines: trace[from],
-            chip: trace[from + 1],
-            byte: trace[from + 2],
-            spare: trace[from + 3],
-        };
-        let answer = step_of_tested_chips(bus, chips, ram);
-        if answer.number != 0 {
+        let went = run_of_tested_chips(
+            chips,
+            ram,
+            &trace[RECORD_BYTES * at..],
+            &mut answers[ANSWER_BYTES * at..],
+        );
+        compared = compared + went.compared;
+        differing = differing + went.differing;
+        at = at + (went.place as usize);
+        if went.number != 0 {
             return Tally {
-                number: answer.number,
+                number: went.number,
                 place: at as u64,
                 compared,
                 differing,
             };
         }
-        answers[ANSWER_BYTES * at] = answer.kind;
-        answers[ANSWER_BYTES * at + 1] = answer.byte;
-        compared = compared + compares(answer.kind);
-        differing = differing + differs(answer.kind, answer.byte, bus.byte);
-        at = at + 1;
     }
     Tally {
         number: 0,
         place: at as u64,
         compared,
         differing,
-    }
-}
-
-// No record run: nothing is changed and nothing compared.
-pub(crate) fn nothing_run(number: u8, place: u64) -> Tally
-    ensures { λ r. ⌜ r ≡ nothingRun number place ⌝ }
-{
-    Tally {
-        number,
-        place,
-        compared: 0,
-        differing: 0,
     }
 }
 
@@ -129,7 +82,7 @@ pub fn replay_in_place(chips: &mut [u8], ram: &mut [u8], trace: &[u8], answers: 
         ≡ replayInPlace (now (chips .entry)) (now (ram .entry)) (now (trace .entry)) (now (answers .entry)) ⌝ }
 {
     if chips.len() != CHIPS_BYTES {
-        return nothing_run(1, 0);
+        return Tally::nothing_run(1, 0);
     }
     let wrong = sizes_wrong(
         trace.len(),
@@ -141,7 +94,7 @@ pub fn replay_in_place(chips: &mut [u8], ram: &mut [u8], trace: &[u8], answers: 
     let right_out = !bytes_pass(&chips[CHIP_BYTES..]);
     let verdict = trace_verdict(wrong, left_out, right_out, trace.len());
     if verdict.number != 0 {
-        return nothing_run(verdict.number, verdict.place);
+        return Tally::nothing_run(verdict.number, verdict.place);
     }
     run(chips, ram, trace, answers)
 }

@@ -4,8 +4,8 @@ ghost use mathlib.Core.Path.{_≡_};
 ghost use lib.ListN.{length, getD};
 ghost use Rattle.panel.specs.Trace.{traceLimit};
 ghost use Rattle.trace.specs.Feed.{begun, stoppedAt, soFar, progressWrong, joinedTo, movedOn};
-use crate::Tally;
 use sed1520::bus::RECORD_BYTES;
+use sed1520::tally::Tally;
 
 // Whether a feed takes parts, or is stopped with the number and the place that it repeats.
 pub enum Ending {

@@ -1,73 +1,97 @@
--- `trace::run` meets its contract: before each record, the records so far have run, their counts stand and their answers are written.
-use Prim.Native.Nat.{_+_, _-_, _*_}
+-- `trace::run` meets its contract: before each run of records, the records so far have run, their counts stand and their answers are written.
+use Prim.Native.Nat.{_-_, _*_, _/_, _≤_}
 use native.Mathlib.Omega.{arith}
-use mathlib.Core.Bool.{_&&_, not}
-use lib.Dec.{eqb}
-use lib.ListN.{getD, length-set}
-use Rattle.panel.specs.Chips.{panelIn}
-use Rattle.trace.specs.Replay.{isCompared}
-use Rattle.trace.proofs.InPlace.{over-bytes-at}
-use Rattle.trace.proofs.Counts.{at-most-one}
-use Rattle.trace.proofs.Upto.{Upto, started, finished, fits-again, refused-here, accepted-here}
+use mathlib.Core.Path.{sym, _∙_}
+use lib.ListN.{length}
 use borrow.Author.Needs.{needs}
+use Rattle.trace.proofs.Bounds.{Few}
+use Rattle.trace.proofs.RunOn.{RunOn, none-run, so-few, buffered, finished, went-few, still-buffered, some-ran, goes-on, stopped}
 use Rattle.trace.proofs.run.Statement.{statement}
 use Rattle.trace.proofs.run.Tie as tie
 
 abbrev Inv-loop : tie.InvT-loop
 Inv-loop chips₀ ram₀ trace answers₀ compared₀ differing₀ at₀ count chips ram answers compared differing at =
-    Upto (panelIn chips₀ ram₀) trace answers₀ chips ram answers compared differing at
+    RunOn chips₀ ram₀ trace answers₀ chips ram answers compared differing at
 
 abbrev μ-loop : tie.MeasureT-loop
 μ-loop chips₀ ram₀ trace answers₀ compared₀ differing₀ at₀ count chips ram answers compared differing at = count - at
 
--- the places of one record: its step, from past it; the loop's head. And the start
-abbrev stepped : tie.After-struct-known Inv-loop μ-loop → tie.After-step-of-tested-chips Inv-loop μ-loop
-stepped c = c .before .before .before .before .before
-
-abbrev head : tie.After-step-of-tested-chips Inv-loop μ-loop → tie.At-loop Inv-loop μ-loop
-head c = c .before .before .before .before .before .before .before .before
-
+-- the start; the loop's head and the test, from past a run of records; that run, from past what it gives back
 abbrev start : tie.At-loop Inv-loop μ-loop → tie.Start Inv-loop μ-loop
 start c = c .before .before .before .before .before
 
+abbrev round : tie.After-run-of-tested-chips Inv-loop μ-loop → tie.In-loop Inv-loop μ-loop
+round c = c .before .before .before .before .before
+
+abbrev ran : tie.After-struct-known Inv-loop μ-loop → tie.After-run-of-tested-chips Inv-loop μ-loop
+ran c = c .before .before .before .before .before .before .before
+
+-- the answers have room for those of the records left
+space : (c : tie.In-loop Inv-loop μ-loop) → 2 * c .before .loop .at ≤ length (c .before .loop .answers)
+space c =
+    let given = start (c .before) .pre in
+    omega (arith, buffered (given .0) (given .1 .0) (c .before .loop .inv), given .1 .0, c .loop-test .taken)
+
 loop-holds : tie.Need-loop-holds Inv-loop μ-loop
-loop-holds c =
-    let given = c .before .before .before .before .pre in
-    started _ _ _ _ (given .0) (given .1 .1) (given .1 .0)
+loop-holds c = none-run _ _ _ _ (c .before .before .before .before .pre .0)
 
-returns : tie.Need-returns Inv-loop μ-loop
-returns c =
-    let step = stepped (c .before) in
-    let state = head step .loop .inv in
-    let given = step .step-of-tested-chips .ensures in
-    over-bytes-at
-    (start (head step) .pre .0)
-    (fits-again state (omega arith) given)
-    (refused-here state (omega arith) given (c .if1 .taken))
+-- what the records that run together give back, from past them: few, all done or refused
+module _ (c : tie.After-run-of-tested-chips Inv-loop μ-loop) where
+  abbrev head : tie.At-loop Inv-loop μ-loop
+  head = round c .before
 
-slice-write-answers-2 : tie.Need-slice-write-answers-2 Inv-loop μ-loop
-slice-write-answers-2 c = simp length-set (omega arith)
+  few : let went = c .run-of-tested-chips .result in
+      Few (length (start head .args .trace .now) / 4 - head .loop .at) (went .place) (went .compared) (went .differing)
+  few =
+      let given = start head .pre in
+      went-few (given .0) (given .1 .0) (head .loop .inv) (round c .loop-test .taken) (c .run-of-tested-chips .ensures)
+
+  before : Few (head .loop .at) (head .loop .at) (head .loop .compared) (head .loop .differing)
+  before = let given = start head .pre in so-few (given .0) (given .1 .0) (head .loop .inv)
+
+  short : length (start head .args .trace .now) ≤ 65536
+  short = start head .pre .1 .1
 
 add-compared : tie.Need-add-compared Inv-loop μ-loop
-add-compared c = omega (arith, at-most-one (isCompared (stepped (c .before .before) .step-of-tested-chips .result .kind)))
+add-compared c = let went = ran c in omega (arith, few went .compared-few, before went .compared-few, short went, round went .loop-test .taken)
 
 add-differing : tie.Need-add-differing Inv-loop μ-loop
 add-differing c =
-    let step = stepped (c .before .before .before) in
-    let answer = step .step-of-tested-chips .result in
-    let recorded = getD (start (head step) .args .trace .now) (4 * head step .loop .at + 2) 0 in
-    omega (arith, at-most-one (isCompared (answer .kind) && not (eqb (answer .byte) recorded)))
+    let went = ran (c .before) in
+    omega (arith, few went .differing-few, before went .differing-few, short went, round went .loop-test .taken)
+
+add-at : tie.Need-add-at Inv-loop μ-loop
+add-at c = let went = ran (c .before) in omega (arith, few went .place-few, short went, round went .loop-test .taken)
+
+same-length-3 : tie.Need-same-length-3 Inv-loop μ-loop
+same-length-3 c =
+    let went = ran (c .before .before .before) in
+    let given = start (head went) .pre in
+    still-buffered (given .0) (given .1 .0) (head went .loop .inv) (round went .loop-test .taken) (went .run-of-tested-chips .ensures)
+
+returns : tie.Need-returns Inv-loop μ-loop
+returns c =
+    let went = ran (c .before .before .before) in
+    let given = start (head went) .pre in
+    stopped (given .0) (given .1 .0) (head went .loop .inv) (round went .loop-test .taken) (went .run-of-tested-chips .ensures) (c .if1 .taken)
+
+loop-less : tie.Need-loop-less Inv-loop μ-loop
+loop-less c =
+    let went = ran (c .before .before .before) in
+    let given = start (head went) .pre in
+    let some = some-ran (given .0) (given .1 .0) (head went .loop .inv) (round went .loop-test .taken) (went .run-of-tested-chips .ensures) (c .if1 .left) in
+    omega (arith, some, round went .loop-test .taken)
 
 loop-again : tie.Need-loop-again Inv-loop μ-loop
 loop-again c =
-    let step = stepped (c .before .before .before) in
-    accepted-here (head step .loop .inv) (omega arith) (step .step-of-tested-chips .ensures)
-    (omega arith) (c .before .compares .ensures) (c .differs .ensures)
+    let went = ran (c .before .before .before) in
+    let given = start (head went) .pre in
+    goes-on (given .0) (given .1 .0) (head went .loop .inv) (round went .loop-test .taken) (went .run-of-tested-chips .ensures) (c .if1 .left)
 
 returns-2 : tie.Need-returns-2 Inv-loop μ-loop
 returns-2 c =
-    let state = c .before .loop .inv in
-    over-bytes-at (start (c .before) .pre .0) (state .fits) (finished state (omega arith))
+    let given = start (c .before) .pre in
+    finished (given .0) (given .1 .0) (c .before .loop .inv) (omega arith)
 
 pub run-spec : {M : Type 1} → statement M
 run-spec =
@@ -80,28 +104,23 @@ run-spec =
     (λ c. search needs)
     (λ c. search needs)
     (λ c. search needs)
-    (λ c. search needs)
-    (λ c. search needs)
-    (λ c. search needs)
-    (λ c. search needs)
-    (λ c κs. search needs)
-    (λ c. search needs)
-    (λ c. search needs)
-    (λ c. search needs)
-    returns
-    (λ c. search needs)
-    (λ c. search needs)
-    (λ c. search needs)
-    (λ c. search needs)
-    slice-write-answers-2
+    (λ c. omega (arith, space (c .before .before .before)))
+    (λ c. omega (arith, space (c .before .before .before)))
+    (λ c. omega (arith, space (c .before .before .before)))
+    (λ c. omega (arith, space (c .before .before .before)))
     (λ c κs. search needs)
     add-compared
-    (λ c κs. search needs)
     add-differing
-    (λ c. search needs)
-    (λ c. search needs)
+    add-at
+    (λ c. let went = ran (c .before .before .before) in
+    went .run-of-tested-chips .kept .0 ∙ head went .loop .inv .fits .size ∙ sym (start (head went) .pre .0 .size))
+    (λ c. let went = ran (c .before .before .before) in
+    went .run-of-tested-chips .kept .1 .0 ∙ head went .loop .inv .fits .image ∙ sym (start (head went) .pre .0 .image))
+    same-length-3
+    returns
+    loop-less
     loop-again
-    (λ c. search needs)
-    (λ c. search needs)
-    (λ c. search needs)
+    (λ c. c .before .loop .inv .fits .size ∙ sym (start (c .before) .pre .0 .size))
+    (λ c. c .before .loop .inv .fits .image ∙ sym (start (c .before) .pre .0 .image))
+    (λ c. let given = start (c .before) .pre in buffered (given .0) (given .1 .0) (c .before .loop .inv))
     returns-2)

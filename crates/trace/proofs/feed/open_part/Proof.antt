@@ -9,8 +9,8 @@ use Rattle.basics.proofs.Parts.{rest}
 use Rattle.panel.proofs.TwoChips.{left-passes, right-passes}
 use Rattle.trace.specs.Feed.{partTable, partVerdict}
 use Rattle.trace.specs.FeedInPlace.{feedIn}
-use Rattle.trace.specs.Replay.{InPlace}
-use Rattle.trace.specs.declared.Tally.{Tally}
+use Rattle.sed1520.specs.Replies.{InPlace}
+use Rattle.sed1520.specs.declared.tally.Tally.{Tally}
 use Rattle.trace.proofs.Bounds.{tally-few}
 use Rattle.trace.proofs.FeedCases.{ofFeed, PartRight, part-right, part-line, part-passed}
 use Rattle.trace.proofs.InPlace.{both-pass}

@@ -5,8 +5,8 @@ use mathlib.Core.Path.{ap, _∙_}
 use mathlib.Core.List.{[]}
 use lib.ListN.{length, length-take, length-drop}
 use borrow.Author.Needs.{needs}
-use Rattle.trace.specs.declared.Tally.{Tally}
-use Rattle.trace.specs.Replay.{InPlace}
+use Rattle.sed1520.specs.declared.tally.Tally.{Tally}
+use Rattle.sed1520.specs.Replies.{InPlace}
 use Rattle.trace.proofs.Bounds.{Few, tally-few}
 use Rattle.trace.proofs.OverBytes.{fits-behind, bytes-cut, bytes-both}
 use Rattle.trace.proofs.feed.run_both.Statement.{statement}

@@ -1,4 +1,4 @@
--- The counts of a replay: never more than its replies, counted on by one more, and those of the first k replies need only the first k records.
+-- The counts of a run of records: never more than its replies, counted on by one more, and those of the first k replies need only the first k records.
 use Prim.Native.Nat.{ℕ, zero, suc, _+_, _<_, _≤_}
 use native.Mathlib.Omega.{arith}
 use mathlib.Core.Path.{_≡_, refl}
@@ -7,13 +7,33 @@ use mathlib.Core.List.{List, [], _∷_, _++_}
 use lib.Dec.{eqb}
 use lib.ListN.{length, getD, take}
 use Rattle.basics.specs.Choice.{if}
 use Rattle.sed1520.specs.Cycle.{Reply}
 use Rattle.sed1520.specs.declared.bus.Record.{Record}
-use Rattle.trace.specs.Replay.{isCompared, comparedIn, differingIn}
+use Rattle.sed1520.specs.Replies.{isCompared, comparedIn, differingIn}
 
 pub at-most-one : (t : Bool) → if t 1 0 ≤ 1
 at-most-one true = omega arith
 at-most-one false = omega arith
+
+pub no-more : (t : Bool) (n : ℕ) → if t 0 n ≤ n
+no-more true n = omega arith
+no-more false n = omega arith
+
+-- what differs is counted where it was compared
+pub differs-where : (compared same : Bool) → _≡_ {A = ℕ} (if same 0 (if compared 1 0)) (if (compared && not same) 1 0)
+differs-where true true = refl
+differs-where true false = refl
+differs-where false true = refl
+differs-where false false = refl
+
+-- one reply alone
+pub compared-one : (a : Reply) → comparedIn (a ∷ []) ≡ if (isCompared (a .kind)) 1 0
+unfolding comparedIn
+compared-one a = omega arith
+
+pub differing-one : (a : Reply) (r : Record) → differingIn (a ∷ []) (r ∷ []) ≡ if (isCompared (a .kind) && not (eqb (a .byte) (r .byte))) 1 0
+unfolding differingIn
+differing-one a r = omega arith
 
 pub compared-bound : (given : List Reply) → comparedIn given ≤ length given
 unfolding comparedIn

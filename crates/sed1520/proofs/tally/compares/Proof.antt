@@ -1,7 +1,7 @@
--- `trace::compares` meets its contract: kinds 1 and 3, and no other.
+-- `sed1520::tally::compares` meets its contract: kinds 1 and 3, and no other.
 use borrow.Author.Tests.{ne-eqb}
-use Rattle.trace.proofs.compares.Statement.{statement}
-use Rattle.trace.proofs.compares.Tie as tie
+use Rattle.sed1520.proofs.tally.compares.Statement.{statement}
+use Rattle.sed1520.proofs.tally.compares.Tie as tie
 
 returns : tie.Need-returns
 returns c = rw (c .match .keys1)
