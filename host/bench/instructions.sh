@@ -1,7 +1,8 @@
 #!/bin/sh
-# The instructions that one turn takes, on the archive and on the plain implementation, for each record, frame or repaint, of each job of the bench that
-# has both. They are counted by valgrind's callgrind within the bench's function measured, and one run of `bench once` takes all turns. It ends with status 1
-# where valgrind is missing or the counts are not those of the turns. Usage: instructions.sh BENCH FOLDER, the last a folder to work in.
+# The instructions that one turn takes, on the archive and on the plain implementation, for each record, frame or repaint, of each job of the
+# bench that has both. They are counted by valgrind's callgrind within the bench's function measured, and one run of `bench once` takes all
+# turns. It ends with status 1 where valgrind is missing or the counts are not those of the turns. Usage: instructions.sh BENCH FOLDER, the
+# last a folder to work in.
 set -u
 bench=$1 folder=$2
 complain() { echo "instructions: $*" >&2; exit 1; }

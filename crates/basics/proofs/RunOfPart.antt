@@ -38,7 +38,8 @@ module _ {S T R A : Type 0} (whole : S → R → Step S A) (part : T → R → S
       (tested (eqb (part t r .number) 0))
 
 -- each of the records at the front of a list that pass a test
-pub each-leading : {R : Type 0} (test : R → Bool) (P : R → Type 0) → ((r : R) → test r ≡ true → P r) → (rs : List R) → Each P (take (leading test rs) rs)
+pub each-leading : {R : Type 0} (test : R → Bool) (P : R → Type 0) → ((r : R) → test r ≡ true → P r) → (rs : List R)
+    → Each P (take (leading test rs) rs)
 unfolding leading
 each-leading test P holds [] = tt
 each-leading test P holds (r ∷ rs) = ⊎-elim (λ e. rw e (holds r e, each-leading test P holds rs)) (λ e. rw e tt) (tested (test r))

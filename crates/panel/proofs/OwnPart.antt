@@ -57,13 +57,16 @@ module _ (chips ram trace answers : List ℕ) (size : length chips ≡ 24) (imag
   put-run =
       ⊎-elim
       (λ t. let short = ltb-true (length answers) (2 * (length trace / 4)) t in
-      rw (answers-short bytesStep 12 320 (partAt 12 k chips) (partAt 320 k ram) trace answers short, answers-short chipsStep 24 640 chips ram trace answers short)
-      (rw (same-back 12 k chips, same-back 320 k ram)))
+      let own = answers-short bytesStep 12 320 (partAt 12 k chips) (partAt 320 k ram) trace answers short in
+      rw (own, answers-short chipsStep 24 640 chips ram trace answers short) (rw (same-back 12 k chips, same-back 320 k ram)))
       (λ t. let room = ltb-false (length answers) (2 * (length trace / 4)) t in
-      let own = some-run bytesStep 12 320 (partAt 12 k chips) (partAt 320 k ram) trace answers (part-length 12 k chips size) (part-length 320 k ram image) room some in
+      let right = part-length 12 k chips size in
+      let half = part-length 320 k ram image in
+      let own = some-run bytesStep 12 320 (partAt 12 k chips) (partAt 320 k ram) trace answers right half room some in
       let rs = front trace ∷ wholeRecords (drop 4 trace) in
       let named = together-named (front trace) (wholeRecords (drop 4 trace)) in
-      rw (own, some-run chipsStep 24 640 chips ram trace answers size image room some) (rw (own-run chips ram size image k (take (together rs) rs) named)))
+      rw (own, some-run chipsStep 24 640 chips ram trace answers size image room some)
+      (rw (own-run chips ram size image k (take (together rs) rs) named)))
       (tested (ltb (length answers) (2 * (length trace / 4))))
 
   -- as code lends them and takes them back

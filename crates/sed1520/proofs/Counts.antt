@@ -1,4 +1,5 @@
--- The counts of a run of records: never more than its replies, counted on by one more, and those of the first k replies need only the first k records.
+-- The counts of a run of records: never more than its replies, counted on by one more, and those of the first k replies need only the first k
+-- records.
 use Prim.Native.Nat.{ℕ, zero, suc, _+_, _<_, _≤_}
 use native.Mathlib.Omega.{arith}
 use mathlib.Core.Path.{_≡_, refl}

@@ -114,7 +114,8 @@ module _ {lines k : ℕ} {s : BytesAndRam} {trace buffer : List ℕ} {n : ℕ} {
           written = rw (two, flat-append replyBytes replies (a ∷ [])) (rw append-assoc at second);
           so-compared = rw (compared-more replies a, one-is, upto .so-compared);
           so-differing =
-              rw (differing-more (front []) replies rs a (omega (arith, all, upto .ran .answered)), upto .ran .answered, is, other-is, upto .so-differing);
+              let further = differing-more (front []) replies rs a (omega (arith, all, upto .ran .answered)) in
+              rw (further, upto .ran .answered, is, other-is, upto .so-differing);
         }
 
   -- the run ends here

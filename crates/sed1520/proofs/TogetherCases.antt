@@ -75,9 +75,11 @@ module _ (step : BytesAndRam → Record → Step BytesAndRam Reply) (bytes size 
   unfolding runTogether
   ram-wrong h = rw (ne-eqb (length ram) size h, or-true (not (eqb (length b) bytes)))
 
-  pub answers-short : length answers < 2 * (length trace / 4) → runTogether step bytes size b ram trace answers ≡ inPlace (nothingRun 1 0) b ram answers
+  pub answers-short : length answers < 2 * (length trace / 4)
+      → runTogether step bytes size b ram trace answers ≡ inPlace (nothingRun 1 0) b ram answers
   unfolding runTogether
-  answers-short h = rw (lt-ltb (length answers) (2 * (length trace / 4)) h, or-true (not (eqb (length ram) size)), or-true (not (eqb (length b) bytes)))
+  answers-short h =
+      rw (lt-ltb (length answers) (2 * (length trace / 4)) h, or-true (not (eqb (length ram) size)), or-true (not (eqb (length b) bytes)))
 
   module _ (right : length b ≡ bytes) (half : length ram ≡ size) (room : 2 * (length trace / 4) ≤ length answers) where
     abbrev s : BytesAndRam
@@ -95,7 +97,8 @@ module _ (step : BytesAndRam → Record → Step BytesAndRam Reply) (bytes size 
       abbrev r : Record
       r = front trace
 
-      pub some-run : let rs = r ∷ wholeRecords (drop 4 trace) in runTogether step bytes size b ram trace answers ≡ runFirst step (together rs) rs b ram answers
+      pub some-run : let rs = r ∷ wholeRecords (drop 4 trace) in
+          runTogether step bytes size b ram trace answers ≡ runFirst step (together rs) rs b ram answers
       some-run = runs ∙ rw (first-record trace some)
 
       pub refused-first : (step s r .number ≡ 0 → ⊥)

@@ -151,7 +151,8 @@ module _ {chips₀ ram₀ trace buffer chips ram answers : List ℕ} {compared d
     some-ran done = omega (arith, answered done, together-some left (omega (arith, some-left)))
 
     pub goes-on : went .number ≡ 0
-        → RunOn chips₀ ram₀ trace buffer chips′ ram′ (behind .lent .answers) (compared + went .compared) (differing + went .differing) (n + went .place)
+        → RunOn chips₀ ram₀ trace buffer chips′ ram′ (behind .lent .answers) (compared + went .compared) (differing + went .differing)
+        (n + went .place)
     goes-on done =
         record {
           within = omega (arith, answered done, together-most left, some-left);

@@ -79,8 +79,9 @@ loop-less : tie.Need-loop-less Inv-loop μ-loop
 loop-less c =
     let went = ran (c .before .before .before) in
     let given = start (head went) .pre in
-    let some = some-ran (given .0) (given .1 .0) (head went .loop .inv) (round went .loop-test .taken) (went .run-of-tested-chips .ensures) (c .if1 .left) in
-    omega (arith, some, round went .loop-test .taken)
+    let here = round went .loop-test .taken in
+    let some = some-ran (given .0) (given .1 .0) (head went .loop .inv) here (went .run-of-tested-chips .ensures) (c .if1 .left) in
+    omega (arith, some, here)
 
 loop-again : tie.Need-loop-again Inv-loop μ-loop
 loop-again c =

@@ -24,17 +24,22 @@ returns-3 c =
 
 -- the parts that are lent lie within the bytes and within the image
 bytes-start : (c : tie.After-start-of) → c .start-of .result ≤ 12
-bytes-start c = start-within 12 (getD (c .before .before .before .before .before .before .before .before .before .args .trace .now) 1 0) _ (c .start-of .ensures)
+bytes-start c =
+    let begin = c .before .before .before .before .before .before .before .before .before in
+    start-within 12 (getD (begin .args .trace .now) 1 0) _ (c .start-of .ensures)
 
 image-start : (c : tie.After-start-of2) → c .start-of2 .result ≤ 320
-image-start c = start-within 320 (getD (c .before .before .before .before .before .before .before .before .before .before .before .args .trace .now) 1 0) _ (c .start-of2 .ensures)
+image-start c =
+    let begin = c .before .before .before .before .before .before .before .before .before .before .before in
+    start-within 320 (getD (begin .args .trace .now) 1 0) _ (c .start-of2 .ensures)
 
 returns-4 : tie.Need-returns-4
 returns-4 c =
     let ran = c .before .before .before .before .before .before in
     let image = ran .before .before .before .before in
     let own = image .before .before in
-    on-parts _ _ _ _ (omega arith) (omega arith) (omega arith) _ _ (own .start-of .ensures) (image .start-of2 .ensures) (ran .run-of-tested-bytes .ensures)
+    on-parts _ _ _ _ (omega arith) (omega arith) (omega arith) _ _ (own .start-of .ensures) (image .start-of2 .ensures)
+    (ran .run-of-tested-bytes .ensures)
 
 pub run-of-tested-chips-spec : {M : Type 1} → statement M
 run-of-tested-chips-spec =

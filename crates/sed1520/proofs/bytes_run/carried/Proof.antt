@@ -20,9 +20,11 @@ returns-2 c =
     let at = start .args in
     let bytes = at .trace .now in
     let from = 4 * at .n in
-    let byte : (i : ℕ) → getD bytes i 0 < 256 = λ i. omega (arith, c .before .before .before .before .before .before .before .shared-slice-known .given i) in
+    let known = c .before .before .before .before .before .before .before .shared-slice-known .given in
+    let byte : (i : ℕ) → getD bytes i 0 < 256 = λ i. omega (arith, known i) in
     rw (lt-ltb (at .n) (length bytes / 4) (omega arith), c .before .word-of .ensures, c .word-of2 .ensures)
-    (one-number (at .lines) (at .chip) (recordFrom bytes from) (byte from) (byte (from + 1)) (byte (from + 2)) (byte (from + 3)) (omega arith) (omega arith)
+    (one-number (at .lines) (at .chip) (recordFrom bytes from) (byte from) (byte (from + 1)) (byte (from + 2)) (byte (from + 3))
+    (omega arith) (omega arith)
     ∙ ap (carries (at .lines) (at .chip)) (front-at bytes from))
 
 pub carried-spec : {M : Type 1} → statement M
