@@ -3,37 +3,33 @@ use Prim.Native.Nat.{_-_}
 use native.Mathlib.Omega.{arith}
 use mathlib.Core.Path.{sym, _∙_, refl}
 use mathlib.Core.List.{[]}
-use lib.ListN.{length-take, length-drop}
+use lib.ListN.{length}
 use borrow.Author.Tests.{not-true, not-false}
 use borrow.Author.Needs.{needs}
-use Rattle.basics.specs.Lists.{pieces}
 use Rattle.basics.specs.Run.{runOf}
 use Rattle.vectors.proofs.Steps.{Agreed, all-agreed, next-case, last-case}
 use Rattle.vectors.proofs.agrees.Statement.{statement}
 use Rattle.vectors.proofs.agrees.Tie as tie
 
 abbrev Inv-loop : tie.InvT-loop
-Inv-loop cases ram₀ chip₀ at₀ count ram chip at = Agreed cases ram chip at
+Inv-loop cases ram₀ chip₀ at₀ ram chip at = Agreed cases ram chip at
 
 abbrev μ-loop : tie.MeasureT-loop
-μ-loop cases ram₀ chip₀ at₀ count ram chip at = count - at
+μ-loop cases ram₀ chip₀ at₀ ram chip at = length cases - at
 
 -- the places of a step, from the comparison of its case back: the cycle, and the loop
 abbrev cycled : tie.After-case-agrees Inv-loop μ-loop → tie.After-cycle Inv-loop μ-loop
 cycled c = c .before .before
 
 abbrev loop-of : tie.After-cycle Inv-loop μ-loop → tie.At-loop Inv-loop μ-loop
-loop-of c = c .before .before .before .before .before .before .before .before
+loop-of c = c .before .before .before .before
 
 loop-holds : tie.Need-loop-holds Inv-loop μ-loop
-unfolding runOf pieces
+unfolding runOf
 loop-holds c = record { within = omega arith; image = refl; replies = []; run = rw (c .fresh .ensures) }
 
 slice-aggregate-cycle : tie.Need-slice-aggregate-cycle Inv-loop μ-loop
-slice-aggregate-cycle c = sym (c .before .before .before .before .before .before .before .loop .inv .image)
-
-case-agrees-requires : tie.Need-case-agrees-requires Inv-loop μ-loop
-case-agrees-requires c κs = simp (length-take, length-drop) (omega arith)
+slice-aggregate-cycle c = sym (c .before .before .before .loop .inv .image)
 
 returns : tie.Need-returns Inv-loop μ-loop
 returns c =
@@ -59,17 +55,15 @@ agrees-spec =
     μ-loop
     (λ c κs. search needs)
     loop-holds
-    (λ c. omega arith)
     (λ c. search needs)
     (λ c. search needs)
     (λ c. search needs)
-    (λ c. simp (length-take, length-drop) (omega arith))
-    (λ c. simp (length-take, length-drop) (omega arith))
-    (λ c. simp (length-take, length-drop) (omega arith))
-    (λ c. simp (length-take, length-drop) (omega arith))
+    (λ c. search needs)
+    (λ c. search needs)
+    (λ c. search needs)
     slice-aggregate-cycle
     (λ c κs. search needs)
-    case-agrees-requires
+    (λ c κs. search needs)
     returns
     (λ c. search needs)
     (λ c. search needs)

@@ -7,21 +7,13 @@ use Rattle.vectors.proofs.case_agrees.Statement.{statement}
 use Rattle.vectors.proofs.case_agrees.Tie as tie
 
 returns : tie.Need-returns
-returns c =
-    let at = c .before .before .before .args in
-    sym (wrong-number (at .case .now) (at .answer) (c .if1 .taken))
+returns c = sym (wrong-number _ _ (c .if1 .taken))
 
 returns-2 : tie.Need-returns-2
-returns-2 c =
-    let second = c .before .before .before in
-    let at = second .before .before .before .args in
-    sym (wrong-kind (at .case .now) (at .answer) (omega arith) (c .if2 .taken))
+returns-2 c = sym (wrong-kind _ _ (omega arith) (c .if2 .taken))
 
 returns-3 : tie.Need-returns-3
-returns-3 c =
-    let second = c .before .before .before .before .before in
-    let at = second .before .before .before .args in
-    sym (byte-left (at .case .now) (at .answer) (omega arith) (omega arith))
+returns-3 c = sym (byte-left _ _ (omega arith) (omega arith))
 
 pub case-agrees-spec : {M : Type 1} → statement M
 case-agrees-spec =

@@ -1,6 +1,5 @@
 -- `vectors::main` meets its contract: each sequence of cases, computed from the definitions, agrees.
 use borrow.Author.Needs.{needs}
-use Rattle.basics.specs.Lists.{pieces}
 use Rattle.basics.specs.Run.{runOf}
 use Rattle.sed1520.specs.Memory.{ramIndex}
 use Rattle.sed1520.specs.Chip.{inRange, fresh}
@@ -11,7 +10,7 @@ use Rattle.vectors.proofs.main.Statement.{statement}
 use Rattle.vectors.proofs.main.Tie as tie
 
 pub main-spec : {M : Type 1} → statement M
-unfolding agreesOf runOf pieces caseAgrees ramIndex cycleOf stepOf busRefusal actionOf commandWrite dataWrite dataRead afterRead statusByte
+unfolding agreesOf runOf caseAgrees ramIndex cycleOf stepOf busRefusal actionOf commandWrite dataWrite dataRead afterRead statusByte
     execute decodeOf among inRange fresh
 main-spec =
     tie.close
