@@ -3,6 +3,7 @@
 mod feed_bytes;
 pub mod feed_calls;
 mod packing;
+pub mod version;
 
 ghost use mathlib.Core.Path.{_≡_};
 ghost use Rattle.pedralume.specs.Call.{replayCall, frameCall, repaintCall, changesCall};

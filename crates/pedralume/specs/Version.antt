@@ -1,0 +1,10 @@
+-- The version of the C calls.
+use Prim.Native.Nat.{ℕ, _+_, _*_}
+
+-- a version's three numbers as one, in which versions are ordered as they follow each other: 1.2.3 is 10203
+abbrev pub versionNumber : ℕ → ℕ → ℕ → ℕ
+versionNumber major minor patch = 10000 * major + 100 * minor + patch
+
+-- the version of these calls
+abbrev pub version : ℕ
+version = versionNumber 1 1 0
