@@ -262,8 +262,6 @@ static void add_replay(const char *name, struct load *load, void (*fill)(struct 
                       .prepare = prepare_replay, .work = work_replay, .input = load }, "replay", name);
 }
 
-#ifdef WITH_FEED
-
 /* ---- feeds ---- */
 
 /* A side that has no calls replays the whole trace. */
@@ -332,11 +330,7 @@ static void add_feeds(const struct load *load)
     }
 }
 
-#endif
-
 /* ---- frames and repaints ---- */
-
-#ifdef WITH_FRAME
 
 /* Chips, source and output, with the length of each but the chips'. */
 struct painting {
@@ -389,10 +383,6 @@ static void add_frame(const char *name, struct painting *p)
                       .prepare = prepare_painting, .work = work_painting, .input = p }, "frame", name);
 }
 
-#endif
-
-#ifdef WITH_REPAINT
-
 static void add_repaint(void)
 {
     static struct painting p = {
@@ -405,10 +395,6 @@ static void add_repaint(void)
     add((struct job){ .unit = "repaint", .side = { "archive", "plain" }, .units = CALLS_A_TURN, .limit = NO_LIMIT,
                       .place = REPAINT_RECORDS, .prepare = prepare_painting, .work = work_painting, .input = &p }, "repaint", "");
 }
-
-#endif
-
-#ifdef WITH_CHANGES
 
 /* ---- changes ---- */
 
@@ -446,13 +432,11 @@ static void add_changes(const char *name, struct load *load, void (*fill)(struct
                       .prepare = prepare_changes, .work = work_changes, .input = load }, "changes", name);
 }
 
-#endif
-
 /* ---- all ---- */
 
 static void add_jobs(void)
 {
-    static struct load writes, repaints, reads, rmw_reads, cursors, mixed, at_random;
+    static struct load writes, repaints, reads, rmw_reads, cursors, mixed, at_random, seen_writes, seen_mixed, seen_shown;
     add_replay("all writes", &writes, fill_writes);
     add_replay("repaints", &repaints, fill_repaints);
     add_replay("reads over pages", &reads, fill_reads);
@@ -460,28 +444,19 @@ static void add_jobs(void)
     add_replay("a blinking cursor", &cursors, fill_cursors);
     add_replay("mixed", &mixed, fill_mixed);
     add_replay("chip and kind at random", &at_random, fill_random);
-#ifdef WITH_FRAME
     add_frame("both forward", &frames[0]);
     add_frame("both reverse", &frames[1]);
     add_frame("forward and reverse", &frames[2]);
     add_frame("the same at duty 1/16", &frames[3]);
     add_frame("static drive on", &frames[4]);
     add_frame("display off", &frames[5]);
-#endif
-#ifdef WITH_REPAINT
     add_repaint();
-#endif
-#ifdef WITH_FEED
     add_feeds(&writes);
     add_feeds(&rmw_reads);
     add_feeds(&mixed);
-#endif
-#ifdef WITH_CHANGES
-    static struct load seen_writes, seen_mixed, seen_shown;
     add_changes("all writes", &seen_writes, fill_writes);
     add_changes("mixed", &seen_mixed, fill_mixed);
     add_changes("mixed, mostly shown", &seen_shown, fill_shown);
-#endif
 }
 
 static void run_jobs(void)

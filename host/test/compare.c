@@ -302,8 +302,6 @@ static void compare_marks(uint64_t seed, unsigned long cases)
         fail("marks", 0, "kinds or counts never differ, draw more cases");
 }
 
-#ifdef WITH_FRAME
-
 /* ---- random frames ---- */
 
 /*
@@ -375,10 +373,6 @@ static void compare_frames(uint64_t seed, unsigned long cases)
     check_settings(tried);
 }
 
-#endif
-
-#ifdef WITH_REPAINT
-
 /* ---- random repaints ---- */
 
 /* Takes one to three things away that a ready chip has. */
@@ -438,10 +432,6 @@ static void compare_repaints(uint64_t seed, unsigned long cases)
     }
     report(&contest, &tally, due);
 }
-
-#endif
-
-#ifdef WITH_CHANGES
 
 /* ---- random changes ---- */
 
@@ -613,8 +603,6 @@ static void compare_changes(uint64_t seed, unsigned long cases)
             fail("changes, kind of room", kind, "never tried, draw more cases");
 }
 
-#endif
-
 /* ---- random runs ---- */
 
 /* Draws chips, RAM and a trace of runs, and room of so many bytes for each record; the course says how far the trace is accepted. */
@@ -662,11 +650,9 @@ static void compare_runs(uint64_t seed, unsigned long cases)
     contend_runs(&contest, seed, cases, 2);
     report_runs();
     check_run_details();
-#ifdef WITH_CHANGES
     contest = changes_contest;
     contest.name = "changes over runs";
     contend_runs(&contest, seed, cases / 8, ENTRY);
-#endif
 }
 
 int main(int argc, char **argv)
@@ -676,15 +662,9 @@ int main(int argc, char **argv)
     printf("compare: seed %llu, %lu cases\n", (unsigned long long)seed, cases);
     compare_replays(seed, cases);
     compare_marks(seed, cases);
-#ifdef WITH_FRAME
     compare_frames(seed, cases);
-#endif
-#ifdef WITH_REPAINT
     compare_repaints(seed, cases);
-#endif
-#ifdef WITH_CHANGES
     compare_changes(seed, cases);
-#endif
     compare_runs(seed, cases);
     printf("compare: %u failed\n", failures);
     return failures == 0 ? EXIT_SUCCESS : EXIT_FAILURE;

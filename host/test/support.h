@@ -13,10 +13,6 @@
 #include <stdlib.h>
 #include <string.h>
 
-#if defined(WITH_REPAINT) && !defined(WITH_FRAME)
-#error "a repaint is judged by its frames: CALLS needs frame where it has repaint"
-#endif
-
 enum {
     CHIP = PEDRALUME_CHIP_BYTES,
     CHIPS = PEDRALUME_CHIPS_BYTES,

@@ -697,8 +697,6 @@ static void test_chips_apart(void)
     }
 }
 
-#ifdef WITH_FRAME
-
 /* ---- frame ---- */
 
 /* A state and a frame with bytes to spare. */
@@ -864,10 +862,6 @@ static void test_frame_refusals(void)
     p.chips[PEDRALUME_SAVED_COLUMN] = 1;                            /* left before right */
     test_frame_stays(&p, CHIPS, RAM, FRAME, 2, 0);
 }
-
-#endif
-
-#ifdef WITH_REPAINT
 
 /* ---- repaint ---- */
 
@@ -1113,10 +1107,6 @@ static void test_repaint_lengths(void)
         test_repaint_stays(&e, chips[i], picture[i], output[i], 1, 0);
     }
 }
-
-#endif
-
-#ifdef WITH_FEED
 
 /* ---- feed ---- */
 
@@ -1801,8 +1791,6 @@ static void test_feeds(void)
     test_feed_listing();
 }
 
-#endif
-
 static void test_replays(void)
 {
     test_listing();
@@ -1832,13 +1820,10 @@ int main(void)
 {
     test_apart();
     test_replays();
-#ifdef WITH_FRAME
     test_all_frames();
     test_frame_examples();
     test_frame_refusals();
     test_frame_columns();
-#endif
-#ifdef WITH_REPAINT
     test_repaints();
     test_repaint_idle_fields();
     test_repaint_example();
@@ -1848,9 +1833,6 @@ int main(void)
     test_repaint_saved_column();
     test_unready_chips();
     test_repaint_start_lines();
-#endif
-#ifdef WITH_FEED
     test_feeds();
-#endif
     return end_of_checks();
 }
