@@ -1,13 +1,12 @@
 /*
- * The records that changed what the panel shows (C-14 of document 02), through the archive: every number
- * of the call, what stays at each, and which records are listed. What is expected is written out here from
- * the documents, or found by the archive's replay of one record at a time and document 01's pixels.
+ * This test holds the archive's changes to C-14 of document 02: which records are listed, every number of the
+ * call, and what stays at each. What is expected is written out here and in rig.h from the documents, or found by
+ * the archive's replay of one record at a time and document 01's pixels.
  */
 #define PROGRAM "changes"
-#include "check.h"
+#include "rig.h"
 
-/* Bytes past what a call is lent; they must stay too. */
-enum { SLACK = 16, MOST_LISTED = 64, ROOM = MOST_LISTED * ENTRY };
+enum { MOST_LISTED = 64, ROOM = MOST_LISTED * ENTRY };
 
 /* ---- what the call is lent ---- */
 
@@ -24,9 +23,8 @@ static bool same_view(const struct view *a, const struct view *b)
 
 static void fresh_view(struct view *v)
 {
-    static const uint8_t fresh[CHIPS] = { PEDRALUME_FRESH_CHIP, PEDRALUME_FRESH_CHIP };
     memset(v, 0xEE, sizeof *v);
-    memcpy(v->chips, fresh, CHIPS);
+    fresh_chips(v->chips);
     memset(v->ram, 0, RAM);
 }
 
@@ -34,7 +32,7 @@ static void fresh_view(struct view *v)
 static void dark_view(struct view *v)
 {
     fresh_view(v);
-    v->chips[PEDRALUME_DISPLAY] = v->chips[CHIP + PEDRALUME_DISPLAY] = 1;
+    shown_chips(v->chips);
 }
 
 /* The same over random RAM. */
@@ -640,26 +638,6 @@ static void test_cut_traces(void)
     }
 }
 
-/* Sent after the story, where only the left chip is in read-modify-write. Several faults show which number comes first. */
-static const struct { uint8_t lines, chip, data, last, number; } bad_records[] = {
-    { 0x0A, 0, 0xAF, 0, 4 }, { 0x82, 0, 0xAF, 0, 4 }, { 2, 0, 0xAF, 1, 4 },   { 3, 1, 0, 0x80, 4 }, { 0xFF, 0xFF, 0xFF, 0xFF, 4 },
-    { 2, 0, 0x80, 1, 4 },    { 0, 2, 0x05, 1, 4 },    { 8, 2, 0, 0, 4 },      { 2, 1, 0x64, 1, 4 },
-    { 2, 2, 0xAF, 0, 5 },    { 3, 255, 0, 0, 5 },     { 4, 128, 0, 0, 5 },    { 5, 3, 0, 0, 5 },    { 0, 2, 0, 0, 5 },
-    { 2, 2, 0x80, 0, 5 },    { 2, 2, 0x64, 0, 5 },
-    { 0, 0, 0xAF, 0, 6 },    { 1, 1, 0, 0, 6 },       { 6, 0, 0, 0, 6 },      { 7, 1, 0, 0, 6 },    { 0, 0, 0x80, 0, 6 },
-    { 6, 0, 0x05, 0, 6 },    { 0, 1, 0x64, 0, 6 },
-    { 2, 0, 0x80, 0, 7 },    { 2, 1, 0xFF, 0, 7 },    { 2, 0, 0xA2, 0, 7 },   { 2, 0, 0xBC, 0, 7 }, { 2, 1, 0xE3, 0, 7 },
-    { 2, 0, 0x00, 0, 8 },    { 2, 0, 0x05, 0, 8 },    { 2, 0, 0x50, 0, 8 },   { 2, 0, 0x64, 0, 8 }, { 2, 0, 0x7F, 0, 8 },
-    { 2, 1, 0x50, 0, 14 },   { 2, 1, 0x64, 0, 14 },   { 2, 1, 0x7F, 0, 14 },
-};
-
-enum { BAD = sizeof bad_records / sizeof bad_records[0] };
-
-static void put_bad(struct trace *t, size_t i)
-{
-    put_record(t, bad_records[i].lines, bad_records[i].chip, bad_records[i].data, bad_records[i].last);
-}
-
 /*
  * 4 to 8 and 14 with the record as place, at a late record and at the first, whatever the room: nothing is
  * listed of the records before either. What follows is not looked at, be it a lower number.
@@ -669,13 +647,13 @@ static void test_refused_records(void)
     static const size_t room[] = { ROOM, ENTRY * TOLD, ENTRY * TOLD - 1, 1, 0 };
     static struct trace late, first;
     static struct view v, busy;
-    for (size_t i = 0; i < BAD; i++) {
+    for (size_t i = 0; i < BAD_RECORDS; i++) {
         late = *story();
-        put_bad(&late, i);
+        put_bad(&late, &bad_records[i]);
         put_write(&late, 0, 0xDD);
         put_record(&late, 0xFF, 0xFF, 0xFF, 0xFF);
         first.len = 0;
-        put_bad(&first, i);
+        put_bad(&first, &bad_records[i]);
         put_story(&first);
         fresh_view(&v);
         busy = v;
@@ -701,6 +679,9 @@ static void test_every_place(void)
         memcpy(t.bytes + RECORD * place, (const uint8_t[]){ PEDRALUME_COMMAND_WRITE, 1, 100, 0 }, RECORD);
         STAYS(&v, &t, CHIPS, RAM, t.len, ROOM, 14, place);
         STAYS(&v, &t, CHIPS, RAM, t.len, 0, 14, place);
+        t.bytes[RECORD * place + 2] = 0xE3;
+        STAYS(&v, &t, CHIPS, RAM, t.len, ROOM, 7, place);
+        STAYS(&v, &t, CHIPS, RAM, t.len, 0, 7, place);
     }
 }
 

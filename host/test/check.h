@@ -1,6 +1,7 @@
 /*
- * What test.c and changes.c share: checks that are counted and reported by the line they stand in, columns to
- * be given, and document 01's pixels. The program names itself in PROGRAM first. Static inline as in support.h.
+ * The tests of each call judge with this: checks that are counted and reported by the line they stand in,
+ * columns to be given, and document 01's pixels. The program names itself in PROGRAM first, by the name of its
+ * file. All is static inline, as in support.h.
  */
 #ifndef CHECK_H
 #define CHECK_H
@@ -60,11 +61,6 @@ static inline struct given_column put_column(uint8_t *chips, unsigned way)
 static inline unsigned bit(unsigned byte, unsigned n)
 {
     return byte >> n & 1;
-}
-
-static inline unsigned pixel(const uint8_t *frame, unsigned x, unsigned row)
-{
-    return bit(frame[x + WIDTH * (row / 8)], row % 8);
 }
 
 /* The pixel as document 01 says it, one at a time. */

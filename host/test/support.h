@@ -1,5 +1,5 @@
 /*
- * What test.c, changes.c, lists.c, compare.c, feeds.c, stack.c and bench.c share: random numbers, traces,
+ * What the tests of each call, lists.c, compare.c, feeds.c, stack.c and bench.c share: random numbers, traces,
  * random states, the plain implementation's names. Everything is static inline, so that each program takes
  * what it needs.
  */
