@@ -26,13 +26,15 @@ files() { # COMMAND: calls it for each file with mode, source and place; a sourc
     "$1" 644 man/pedralume-replay.1 "$MANDIR/man1/pedralume-replay.1"
     "$1" 644 man/pedralume.3 "$MANDIR/man3/pedralume.3"
     "$1" 644 ../docs/FORMATS.md "$DOCDIR/FORMATS.md"
+    for own in examples/*.c; do "$1" 644 "$own" "$DOCDIR/$own"; done
 }
 links() { # COMMAND: calls it for each link with its text and place
     "$1" "libpedralume.so.$VERSION" "$LIBDIR/libpedralume.so.${VERSION%%.*}"
     "$1" "libpedralume.so.${VERSION%%.*}" "$LIBDIR/libpedralume.so"
-    for call in replay frame repaint feed_open feed_part feed_close changes words; do
-        "$1" pedralume.3 "$MANDIR/man3/pedralume_$call.3"
-    done
+    for function in $(functions); do "$1" pedralume.3 "$MANDIR/man3/$function.3"; done
+}
+functions() { # prints the names of the header's calls and helpers, which pedralume.3 describes
+    sed -nE 's/^(uint64_t|static inline [a-z0-9_ ]*) \*?(pedralume_[a-z_]*)\(.*/\2/p' include/pedralume.h
 }
 earlier() { # prints the shared libraries of this first number that are of another version: the links lead to this one only
     for library in "$DESTDIR$LIBDIR/libpedralume.so.${VERSION%%.*}".*; do
@@ -87,6 +89,7 @@ put_file() { # MODE SOURCE PLACE
 copy() { # SOURCE FILE
     case $1 in
     @*) "${1#@}" >"$2" ;;
+    man/*.3) awk -f man/page.awk include/pedralume.h "$1" | sed "s/@VERSION@/$VERSION/" >"$2" ;;
     man/*) sed "s/@VERSION@/$VERSION/" "$1" >"$2" ;;
     *) cp "$1" "$2" ;;
     esac
@@ -122,6 +125,7 @@ put)
     files readable
     readable - pedralume.pc.in
     readable - replay.sh
+    readable - man/page.awk
     links no_folder
     as_the_sources "$ARCHIVE" "./show --version, which builds it,"
     as_the_sources "$PROGRAM" "./replay examples/listing.trace, which builds it,"
@@ -136,7 +140,7 @@ remove)
     earlier | while read -r library; do rm -f "$library"; done
     # its own folders, unless someone else has put something there
     rmdir "$DESTDIR$LIBDIR/pedralume" 2>/dev/null || :
-    rmdir "$DESTDIR$DOCDIR" 2>/dev/null || :
+    rmdir "$DESTDIR$DOCDIR/examples" "$DESTDIR$DOCDIR" 2>/dev/null || :
     ;;
 *) fail "no such step: $1" ;;
 esac

@@ -3,10 +3,22 @@
 
 mod plain;
 
-use std::slice::{from_raw_parts, from_raw_parts_mut};
+/// A buffer of length 0 may have any pointer, null included.
+///
+/// # Safety
+/// The pointer has its length of bytes behind it.
+unsafe fn lent<'a>(pointer: *const u8, length: usize) -> &'a [u8] {
+    if length == 0 { &[] } else { unsafe { std::slice::from_raw_parts(pointer, length) } }
+}
 
 /// # Safety
-/// Each pointer is not null and has its length of bytes behind it; no two buffers overlap.
+/// As for `lent`, and nobody else has these bytes.
+unsafe fn lent_mut<'a>(pointer: *mut u8, length: usize) -> &'a mut [u8] {
+    if length == 0 { &mut [] } else { unsafe { std::slice::from_raw_parts_mut(pointer, length) } }
+}
+
+/// # Safety
+/// Each pointer has its length of bytes behind it; no two buffers overlap.
 #[cfg_attr(as_pedralume, unsafe(export_name = "pedralume_replay"))]
 #[cfg_attr(not(as_pedralume), unsafe(export_name = "plain_replay"))]
 pub unsafe extern "C" fn replay(
@@ -21,10 +33,10 @@ pub unsafe extern "C" fn replay(
 ) -> u64 {
     unsafe {
         plain::replay(
-            from_raw_parts_mut(chips, chips_len),
-            from_raw_parts_mut(ram, ram_len),
-            from_raw_parts(trace, trace_len),
-            from_raw_parts_mut(answers, answers_len),
+            lent_mut(chips, chips_len),
+            lent_mut(ram, ram_len),
+            lent(trace, trace_len),
+            lent_mut(answers, answers_len),
         )
     }
 }
@@ -43,9 +55,9 @@ pub unsafe extern "C" fn frame(
 ) -> u64 {
     unsafe {
         plain::frame(
-            from_raw_parts(chips, chips_len),
-            from_raw_parts(ram, ram_len),
-            from_raw_parts_mut(frame, frame_len),
+            lent(chips, chips_len),
+            lent(ram, ram_len),
+            lent_mut(frame, frame_len),
         )
     }
 }
@@ -64,9 +76,9 @@ pub unsafe extern "C" fn repaint(
 ) -> u64 {
     unsafe {
         plain::repaint(
-            from_raw_parts(chips, chips_len),
-            from_raw_parts(picture, picture_len),
-            from_raw_parts_mut(output, output_len),
+            lent(chips, chips_len),
+            lent(picture, picture_len),
+            lent_mut(output, output_len),
         )
     }
 }
@@ -76,7 +88,7 @@ pub unsafe extern "C" fn repaint(
 #[cfg_attr(as_pedralume, unsafe(export_name = "pedralume_feed_open"))]
 #[cfg_attr(not(as_pedralume), unsafe(export_name = "plain_feed_open"))]
 pub unsafe extern "C" fn feed_open(feed: *mut u8, feed_len: usize, chips: *const u8, chips_len: usize) -> u64 {
-    unsafe { plain::feed_open(from_raw_parts_mut(feed, feed_len), from_raw_parts(chips, chips_len)) }
+    unsafe { plain::feed_open(lent_mut(feed, feed_len), lent(chips, chips_len)) }
 }
 
 /// # Safety
@@ -95,10 +107,10 @@ pub unsafe extern "C" fn feed_part(
 ) -> u64 {
     unsafe {
         plain::feed_part(
-            from_raw_parts_mut(feed, feed_len),
-            from_raw_parts_mut(ram, ram_len),
-            from_raw_parts(part, part_len),
-            from_raw_parts_mut(answers, answers_len),
+            lent_mut(feed, feed_len),
+            lent_mut(ram, ram_len),
+            lent(part, part_len),
+            lent_mut(answers, answers_len),
         )
     }
 }
@@ -108,7 +120,7 @@ pub unsafe extern "C" fn feed_part(
 #[cfg_attr(as_pedralume, unsafe(export_name = "pedralume_feed_close"))]
 #[cfg_attr(not(as_pedralume), unsafe(export_name = "plain_feed_close"))]
 pub unsafe extern "C" fn feed_close(feed: *mut u8, feed_len: usize) -> u64 {
-    unsafe { plain::feed_close(from_raw_parts_mut(feed, feed_len)) }
+    unsafe { plain::feed_close(lent_mut(feed, feed_len)) }
 }
 
 /// # Safety
@@ -127,10 +139,17 @@ pub unsafe extern "C" fn changes(
 ) -> u64 {
     unsafe {
         plain::changes(
-            from_raw_parts(chips, chips_len),
-            from_raw_parts(ram, ram_len),
-            from_raw_parts(trace, trace_len),
-            from_raw_parts_mut(entries, entries_len),
+            lent(chips, chips_len),
+            lent(ram, ram_len),
+            lent(trace, trace_len),
+            lent_mut(entries, entries_len),
         )
     }
+}
+
+/// The version that the header's macros have.
+#[cfg(as_pedralume)]
+#[unsafe(export_name = "pedralume_version")]
+pub extern "C" fn version() -> u64 {
+    10100
 }

@@ -1,16 +1,20 @@
 /*
  * A client of the installed library, built by install.sh outside the tree, as C and as C++. It takes the name of
- * what to run. The files *.inc are the examples of the installed header, as they stand in its comment: first,
- * refused (the first with its last record spoilt), trace (the first's records), repaint, recorder, changes,
- * replay_long and list_long.
+ * what to run. The files *.inc are the example of the installed header, as it stands in its comment: first, refused
+ * (with its last record spoilt) and trace (its records). The installed examples replay_long and list_long lend their
+ * functions, which are tried here on more traces than their own.
  */
 #include <pedralume.h>
 
 #include <stdio.h>
 #include <string.h>
 
-#include "replay_long.inc"
-#include "list_long.inc"
+#define main replay_long_main
+#include "replay_long.c"
+#undef main
+#define main list_long_main
+#include "list_long.c"
+#undef main
 
 #include "trace.inc"
 
@@ -21,19 +25,6 @@ enum {
 
 static const uint8_t fresh_chips[PEDRALUME_CHIPS_BYTES] = { PEDRALUME_FRESH_CHIP, PEDRALUME_FRESH_CHIP };
 
-/* A recorder that hands over 7 bytes at a time, so that records are cut. */
-static size_t taken = 0;
-
-static size_t take_bytes(uint8_t *part, size_t room)
-{
-    size_t length = sizeof trace - taken < 7 ? sizeof trace - taken : 7;
-    if (length > room)
-        length = room;
-    memcpy(part, trace + taken, length);
-    taken += length;
-    return length;
-}
-
 static void run_first(void)
 {
 #include "first.inc"
@@ -42,26 +33,6 @@ static void run_first(void)
 static void run_refused(void)
 {
 #include "refused.inc"
-}
-
-static void run_repaint(void)
-{
-#include "first.inc"
-#include "repaint.inc"
-}
-
-static void run_recorder(void)
-{
-    uint8_t chips[PEDRALUME_CHIPS_BYTES] = { PEDRALUME_FRESH_CHIP, PEDRALUME_FRESH_CHIP };
-    uint8_t ram[PEDRALUME_RAM_BYTES] = { 0 };
-    uint64_t answer;
-#include "recorder.inc"
-}
-
-static void run_changes(void)
-{
-    uint64_t answer;
-#include "changes.inc"
 }
 
 static void run_replay_long(void)
@@ -121,16 +92,15 @@ static void run_words(void)
 
 static void run_version(void)
 {
-    printf("%d.%d.%d %s %d\n", PEDRALUME_VERSION_MAJOR, PEDRALUME_VERSION_MINOR, PEDRALUME_VERSION_PATCH, PEDRALUME_VERSION,
-           PEDRALUME_VERSION_NUMBER);
+    printf("%d.%d.%d %s %d %lu\n", PEDRALUME_VERSION_MAJOR, PEDRALUME_VERSION_MINOR, PEDRALUME_VERSION_PATCH, PEDRALUME_VERSION,
+           PEDRALUME_VERSION_NUMBER, (unsigned long)pedralume_version());
 }
 
 static const struct {
     const char *name;
     void (*run)(void);
 } runs[] = {
-    { "first", run_first }, { "refused", run_refused }, { "repaint", run_repaint }, { "recorder", run_recorder },
-    { "changes", run_changes }, { "replay_long", run_replay_long }, { "list_long", run_list_long },
+    { "first", run_first }, { "refused", run_refused }, { "replay_long", run_replay_long }, { "list_long", run_list_long },
     { "frame", run_frame }, { "words", run_words }, { "version", run_version }
 };
 

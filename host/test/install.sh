@@ -1,6 +1,6 @@
 #!/bin/sh
 # Runs make install and make uninstall in a copy of the project, and uses what is installed as a stranger would: clients built in a folder outside the
-# tree by what pkg-config says alone, the examples of the installed header among them, the programs, the man pages.
+# tree by what pkg-config says alone, the example of the installed header and the installed examples among them, the programs, the man pages.
 # Usage: install.sh PROGRAM..., from any folder: what is installed as pedralume-PROGRAM. All must be built.
 set -u
 . "$(dirname "$0")/checks.sh"
@@ -37,6 +37,9 @@ names() { (cd "$1" && find . ! -type d | sort); } # FOLDER
 
 # ---- installed, twice, and under DESTDIR ----
 
+calls="changes feed_close feed_open feed_part frame repaint replay version"
+helpers="compared differing entry_left entry_record entry_right feed_compared feed_differing feed_field feed_place feed_records number pixel place words"
+examples="changes frame list_long recorder repaint replay_long"
 version=$(sed -nE 's/^#define PEDRALUME_VERSION_(MAJOR|MINOR|PATCH) //p' host/include/pedralume.h | paste -sd .)
 major=${version%%.*}
 {
@@ -44,9 +47,8 @@ major=${version%%.*}
         "./lib/libpedralume.so.$major -> libpedralume.so.$version" "./lib/libpedralume.so.$version 755" "./lib/pedralume/replay 755" \
         "./lib/pkgconfig/pedralume.pc 644" "./bin/pedralume-replay 755" "./share/man/man1/pedralume-replay.1 644" "./share/man/man3/pedralume.3 644" \
         "./share/doc/pedralume/FORMATS.md 644"
-    for call in replay frame repaint feed_open feed_part feed_close changes words; do
-        echo "./share/man/man3/pedralume_$call.3 -> pedralume.3"
-    done
+    for function in $calls $helpers; do echo "./share/man/man3/pedralume_$function.3 -> pedralume.3"; done
+    for example in $examples; do echo "./share/doc/pedralume/examples/$example.c 644"; done
     for program in $programs; do printf '%s\n' "./bin/pedralume-$program 755" "./share/man/man1/pedralume-$program.1 644"; done
 } | sort >"$work/expected"
 make_ install PREFIX="$prefix"; good "install"
@@ -76,7 +78,6 @@ check "own places: pedralume.pc" same "$(head -n 3 "$work/own/lib64/pkgconfig/pe
 # ---- the shared library ----
 
 library=$prefix/lib/libpedralume.so.$version
-calls="changes feed_close feed_open feed_part frame repaint replay"
 check "the calls it shows" same "$(nm -D --defined-only "$library" | sed 's/.* //; s/^pedralume_//' | sort | paste -sd ' ')" "$calls"
 check "soname" same "$(readelf -d "$library" | sed -n 's/.*SONAME.*\[\(.*\)\]/\1/p')" "libpedralume.so.$major"
 check "it needs more than libc" same "$(readelf -d "$library" | sed -n 's/.*NEEDED.*\[\(.*\)\]/\1/p')" "libc.so.6"
@@ -96,56 +97,50 @@ END
     check "a call from Python: '$(python3 "$work/call.py" "$library" 2>&1)'" same "$(python3 "$work/call.py" "$library" 2>&1)" "0 488 True"
 fi
 
-# ---- the header's examples: a block of code begins with the line given and ends before the next line with nothing ----
+# ---- the header's example: a block of code begins with the line given and ends before the next line with nothing ----
 
 header=$prefix/include/pedralume.h
-example() { # NAME FIRST: writes NAME.inc
-    sed -n 's/^ \*$/ *   /; s/^ \*   //p' "$header" |
-        awk -v first="$2" 'index($0, first) == 1 { on = 1 } on && $0 == "" { exit } on' >"$work/client/$1.inc"
-    check "the header has no example $1" [ -s "$work/client/$1.inc" ]
-}
-example first "uint8_t chips["
-example repaint "uint8_t picture["
-example recorder "uint8_t feed["
-example changes "static const uint8_t fresh["
-example replay_long "static uint64_t replay_long("
-example list_long "static uint64_t list_long("
+sed -n 's/^ \*$/ *   /; s/^ \*   //p' "$header" |
+    awk 'index($0, "uint8_t chips[") == 1 { on = 1 } on && $0 == "" { exit } on' >"$work/client/first.inc"
+check "the header has no example" [ -s "$work/client/first.inc" ]
 sed -n '/^static const uint8_t trace/,/^};/p' "$work/client/first.inc" >"$work/client/trace.inc"
 sed 's/PEDRALUME_DATA_READ, \(.*0xA5\)/0x06, \1/' "$work/client/first.inc" >"$work/client/refused.inc"
 cp host/test/client.c "$work/client"
 cp host/test/client.c "$work/client/client.cpp"
-# the comment in one line, to find what it says that an example prints
+# the comment in one line, to find what it says that the example prints
 sed -n 's/^ \* *//p' "$header" | paste -sd ' ' | tr -s ' ' >"$work/comment"
 says() { check "the header does not say: $1" grep -qF "$1" "$work/comment"; } # WORDS
+says "It prints 0 of 1 compared reads differ."
+says "it prints number 6 at 4: RD and WR equal."
+
+# ---- the installed examples, each of which says in its first comment what it prints ----
+
+for example in $examples; do
+    cp "$prefix/share/doc/pedralume/examples/$example.c" "$work/client/$example.c"
+    cp "$work/client/$example.c" "$work/client/$example.cpp"
+    sed -n '1,/^ \*\/$/p' "$work/client/$example.c" | sed '1,/^ \* It prints:$/d' | sed -n 's/^ \*   //p' >"$work/client/$example.says"
+    check "$example.c: does not say what it prints" [ -s "$work/client/$example.says" ]
+done
+every_client() { # KIND: the client and the examples, built so
+    every_run "$1-client"
+    for example in $examples; do prints "$1-$example" "" "$(cat "$work/client/$example.says")"; done
+}
 prints() { # CLIENT NAME TEXT
-    run "$work/client/$1" "$2"
+    run "$work/client/$1" ${2:+"$2"}
     good "$1: $2"
     check "$1: $2 prints '$(head -n 20 "$work/out")'" same "$(cat "$work/out")" "$3"
 }
 lines() { printf '%s\n' "$@"; }
-recorded=$(lines "0 0 00" "1 0 00" "2 0 00" "3 2 00" "4 1 A5")
-changed=$(lines "1 4 0" "4 0 8" "5 1948 0")
 blinked() { awk -v end="$1" 'BEGIN { for (i = 0; i < end; i++) if (i % 3) print i, 1952, 0 }'; } # RECORDS
 listed() { blinked 30000; lines "number 0"; blinked 16384; lines "spoilt: number 5 at 16390"; }
-in_a_row() { printf '%s\n' "$1" | paste -sd '|' | sed 's/|/, then /g'; } # LINES: as the header has them
-says "It prints 0 of 1 compared reads differ."
-says "it prints number 6 at 4: RD and WR equal."
-says "it prints left chip: display off or static drive on."
-says "it prints $(in_a_row "$recorded"), then end 0 5 1 0: done."
-says "It prints $(in_a_row "$changed")."
-says "the number is 0, the place 100,000, the reads compared 20,000 and those that differ 0."
-says "it prints 20,000 lines, the first 1 1952 0, the last 29999 1952 0."
-check "list_long: other lines than the header says" same "$(blinked 30000 | sed -n '1p; $p; $=' | paste -sd '|')" "1 1952 0|29999 1952 0|20000"
-every_example() { # CLIENT
+number=$(echo "$version" | awk -F . '{ print 10000 * $1 + 100 * $2 + $3 }')
+every_run() { # CLIENT
     prints "$1" first "0 of 1 compared reads differ"
     prints "$1" refused "number 6 at 4: RD and WR equal"
-    prints "$1" repaint "$(lines "0 of 1 compared reads differ" "left chip: display off or static drive on")"
-    prints "$1" recorder "$(lines "$recorded" "end 0 5 1 0: done")"
-    prints "$1" changes "$changed"
     prints "$1" replay_long "$(lines "0 100000 20000 0" "cut: 3 99999" "spoilt: 5 70000")"
     prints "$1" list_long "$(listed)"
     prints "$1" frame "0 488 3904"
-    prints "$1" version "$version $version $(echo "$version" | awk -F . '{ print 10000 * $1 + 100 * $2 + $3 }')"
+    prints "$1" version "$version $version $number $number"
     run "$work/client/$1" words; good "$1: words"
     check "$1: words: not one line for each of 0 to 20" same "$(cut -d ' ' -f 1 "$work/out" | paste -sd ' ')" "$(seq 0 20 | paste -sd ' ')"
     check "$1: words: an empty one" same "$(grep -cE '^[0-9]+ .+' "$work/out")" 21
@@ -155,11 +150,14 @@ every_example() { # CLIENT
 
 flags="-Wall -Wextra -Wpedantic -Wconversion -Werror"
 asked() { PKG_CONFIG_PATH=$prefix/lib/pkgconfig pkg-config "$@"; }
-build() { # CLIENT COMMAND...: in the clients' folder
-    client=$1
-    shift
-    run sh -c 'cd "$1" && shift && exec "$@"' - "$work/client" "$@" -o "$client"
-    good "$client: built"
+build() { # KIND ENDING LIBRARIES COMPILER...: the client and the examples, in the clients' folder
+    kind=$1 ending=$2 libraries=$3
+    shift 3
+    for client in client $examples; do
+        # shellcheck disable=SC2086
+        run sh -c 'cd "$1" && shift && exec "$@"' - "$work/client" "$@" "$client.$ending" $libraries -o "$kind-$client"
+        good "$kind-$client: built"
+    done
 }
 if ! missing pkg-config "clients built by it"; then
     check "pkg-config: does not find it" asked --exists pedralume
@@ -168,20 +166,22 @@ if ! missing pkg-config "clients built by it"; then
     cflags=$(asked --cflags pedralume) libs=$(asked --libs pedralume) static=$(asked --static --libs pedralume)
     # shellcheck disable=SC2086
     {
-        build shared-c gcc -std=c99 $flags $cflags client.c $libs
-        build static-c gcc -std=c99 $flags $cflags client.c -static $static
-        build checked-c gcc -std=c99 $flags -g -fsanitize=address,undefined -fno-sanitize-recover=all $cflags client.c $libs
+        build shared-c c "$libs" gcc -std=c99 $flags $cflags
+        build static-c c "-static $static" gcc -std=c99 $flags $cflags
+        build checked-c c "$libs" gcc -std=c99 $flags -g -fsanitize=address,undefined -fno-sanitize-recover=all $cflags
+        kinds="shared-c static-c checked-c"
         missing g++ "clients in C++" || {
-            build shared-c++ g++ -std=c++11 $flags $cflags client.cpp $libs
-            build static-c++ g++ -std=c++11 $flags $cflags client.cpp -static $static
+            build shared-c++ cpp "$libs" g++ -std=c++11 $flags $cflags
+            build static-c++ cpp "-static $static" g++ -std=c++11 $flags $cflags
+            kinds="$kinds shared-c++ static-c++"
         }
     }
-    run env LC_ALL=C "$work/client/shared-c" version
+    run env LC_ALL=C "$work/client/shared-c-client" version
     check "shared-c: runs without the library's folder" [ "$status" -ne 0 ]
-    check "static-c: needs a library" same "$(readelf -d "$work/client/static-c" | grep -c NEEDED)" 0
+    check "static-c: needs a library" same "$(readelf -d "$work/client/static-c-client" | grep -c NEEDED)" 0
     LD_LIBRARY_PATH=$prefix/lib
     export LD_LIBRARY_PATH
-    for client in "$work"/client/shared-* "$work"/client/static-* "$work"/client/checked-*; do every_example "${client##*/}"; done
+    for kind in $kinds; do every_client "$kind"; done
     unset LD_LIBRARY_PATH
 fi
 
@@ -241,15 +241,26 @@ for program in $programs replay; do
     apart "$page: has options that --help has not" -13
     check "$page: an option in its synopsis alone" same "$(section SYNOPSIS "$page" | options | comm -23 - "$work/told")" ""
 done
-for page in host/man/*.[13]; do
+pages=$(find "$prefix/share/man" -type f | sort)
+page3=$prefix/share/man/man3/pedralume.3
+for page in $pages; do
     for part in NAME SYNOPSIS DESCRIPTION "SEE ALSO"; do check "$page: has no $part" grep -qx ".SH $part" "$page"; done
     case $page in *.1) for part in OPTIONS "EXIT STATUS" EXAMPLES; do check "$page: has no $part" grep -qx ".SH $part" "$page"; done ;; esac
 done
-# the seven prototypes, without white space and the page's marks
-prototypes() { tr -d '" \n' | sed 's/\.BI//g' | grep -oE 'uint64_tpedralume_[a-z_]*\([^()]*\);'; }
+# the eight prototypes, without white space; then the sections, each of which says something under its prototype
+prototypes() { tr -d '" \n' | grep -oE 'uint64_tpedralume_[a-z_]*\([^()]*\);'; }
 sed '1,/^#ifdef __cplusplus/d' "$header" | prototypes >"$work/declared"
-check "the header declares $(grep -c . "$work/declared") calls" same "$(grep -c . "$work/declared")" 7
-check "pedralume.3: other prototypes than the header has" same "$(section SYNOPSIS host/man/pedralume.3 | prototypes)" "$(cat "$work/declared")"
+check "the header declares $(grep -c . "$work/declared") calls" same "$(grep -c . "$work/declared")" 8
+check "pedralume.3: other prototypes than the header has" same "$(section SYNOPSIS "$page3" | prototypes)" "$(cat "$work/declared")"
+sections() { section "$1" "$page3" | sed -n 's/^\.SS pedralume_//p' | sort | paste -sd ' '; } # NAME
+check "pedralume.3: sections of other calls" same "$(sections CALLS)" "$calls"
+check "pedralume.3: sections of other helpers" same "$(sections HELPERS)" "$helpers"
+for function in $calls $helpers; do
+    said=$(awk -v name=".SS pedralume_$function" '$0 == name { on = 1; next } /^\.S[SH]/ { on = 0 } on && /^\.fi$/ { said = 1; next } on && said && !/^\./' "$page3")
+    check "pedralume.3: says nothing of $function" [ -n "$said" ]
+done
+check "pedralume.3: not one number for each of 0 to 15" same "$(section "RETURN VALUE" "$page3" | sed -n '/^\.TP$/{n;p;}' | paste -sd ' ')" "$(seq 0 15 | paste -sd ' ')"
+check "pedralume.3: not one section of files" same "$(grep -cx '.SH FILES' "$page3")" 1
 check "a page with another version" same "$(cd "$prefix/share/man" && grep -LF "\"Pedralume $version\"" man?/*)" ""
 check "a placeholder that stays" same "$(grep -rIlE '@[A-Z]+@' "$prefix")" ""
 if ! missing man "man pages found by it and rendered"; then
@@ -257,17 +268,17 @@ if ! missing man "man pages found by it and rendered"; then
         run man -M "$prefix/share/man" -w "${page%/*}" "${page#*/}"; good "man -w $page"
         check "man -w $page: finds '$(cat "$work/out")'" same "$(cat "$work/out")" "$prefix/share/man/man${page%/*}/${page#*/}.${page%/*}"
     done
-    for call in $calls words; do
+    for call in $calls $helpers; do
         run man -M "$prefix/share/man" -w 3 "pedralume_$call"; good "man -w 3 pedralume_$call"
         check "man -w 3 pedralume_$call: finds '$(cat "$work/out")'" same "$(cat "$work/out")" "$prefix/share/man/man3/pedralume.3"
     done
-    for page in host/man/*.[13]; do
+    for page in $pages; do
         run env MANROFFSEQ= MANWIDTH=80 LC_ALL=C.UTF-8 man --warnings -E UTF-8 -l -Tutf8 -Z "$page"; good "$page rendered"
         check "$page: rendered to nothing" [ -s "$work/out" ]
     done
 fi
 if ! missing groff "man pages rendered by it"; then
-    for page in host/man/*.[13]; do run groff -ww -man -Tutf8 -K utf8 "$page"; good "$page, by groff"; done
+    for page in $pages; do run groff -ww -man -Tutf8 -K utf8 "$page"; good "$page, by groff"; done
 fi
 
 # ---- wrong use: nothing is installed and the build is not begun ----

@@ -91,7 +91,7 @@ def try_bytes(text):
     feed, ram = lent([0xEE] * 48), lent([0] * 640)
     library.call("feed_open", feed, lent(FRESH))
     library.call("feed_part", feed, ram, lent(bytes.fromhex("02000A000300")), lent([0] * 4))
-    check("the feed record", words(feed) in flat, words(feed))
+    check("the feed bytes", words(feed) in flat, words(feed))
     trace = re.findall(r"`((?:[0-9A-F]{2} ){3}00)`", text[text.index("## Entry of a change"):text.index("have the entries")])
     entries = lent([0] * 48)
     answer = library.call("changes", lent(FRESH), lent([0] * 640), lent(bytes.fromhex("".join(trace))), entries)
@@ -128,7 +128,7 @@ def try_picture(text):
 
 def try_numbers(text):
     header = read("host/include/pedralume.h")
-    values = dict(re.findall(r"(PEDRALUME_[A-Z_]+) = (\d+)", header[header.index("/* Numbers given back. */"):]))
+    values = dict(re.findall(r"(PEDRALUME_[A-Z_]+) = (\d+)", header[header.index("Numbers given back."):]))
     said = re.findall(r'case (PEDRALUME_[A-Z_]+):\s+return "(.*)";', header)
     wanted = sorted((int(values[name]), sentence) for name, sentence in said)
     table = text[text.index("## Numbers"):]

@@ -1,0 +1,51 @@
+# Puts into a page what the header says: its prototypes, a section for each call and for each helper with the comment above its declaration,
+# and its numbers. So the page says of a call what the header does. Usage: awk -f page.awk pedralume.h pedralume.3
+
+# roff takes a line that begins with a dot or a quote for a request, and a backslash for an escape.
+function plain(text) { gsub(/\\/, "\\e", text); return text ~ /^[.']/ ? "\\&" text : text }
+# A paragraph begins after an empty line of the comment, and at what the call takes, gives, refuses and leaves.
+function sentence(line) { return (apart || line ~ /^(Takes|Gives|Refuses|Leaves) / ? ".PP\n" : "") plain(line) "\n" }
+function section(name, declaration, said) { return ".SS " name "\n.nf\n" declaration ".fi\n.PP\n" said }
+function keep(    name) {
+    name = declaration
+    sub(/\(.*/, "", name)
+    sub(/.*[ *]/, "", name)
+    prototypes = prototypes declaration
+    if (declaration ~ /^static/) helpers = helpers section(name, declaration, said)
+    else calls = calls section(name, declaration, said)
+    declaration = said = ""
+}
+
+FNR == NR && /^\/\*/ { said = ""; apart = 0; comment = 1 }
+FNR == NR && comment {
+    line = $0
+    gsub(/^ ?\/?\*+ ?|^ \*$| *\*\/$/, "", line)
+    if (line != "") said = said sentence(line)
+    apart = line == "" && said != ""
+    if (/\*\//) comment = 0
+    next
+}
+FNR == NR && /^    PEDRALUME_[A-Z_]* = [0-9]*,? *\/\* / {
+    number = text = $0
+    sub(/^.* = /, "", number)
+    sub(/[^0-9].*/, "", number)
+    gsub(/^.*\/\* | \*\/$/, "", text)
+    numbers = numbers ".TP\n" number "\n" plain(text) "\n"
+    next
+}
+FNR == NR && /^(static inline|uint64_t) / { open = 1 }
+FNR == NR && open {
+    line = $0
+    open = line !~ /\)/
+    sub(/\).*/, ");", line)
+    declaration = declaration plain(line) "\n"
+    if (!open) keep()
+    next
+}
+FNR == NR { if ($0 != "") said = ""; next }
+
+/^@PROTOTYPES@$/ { printf "%s", prototypes; next }
+/^@CALLS@$/ { printf "%s", calls; next }
+/^@HELPERS@$/ { printf "%s", helpers; next }
+/^@NUMBERS@$/ { printf "%s", numbers; next }
+{ print }
