@@ -1,11 +1,14 @@
 #!/usr/bin/env python3
 """Holds the papers to what the programs do: runs each command that README.md or docs/FORMATS.md shows, and compares what it prints with what
-the paper says; computes the bytes that docs/FORMATS.md gives; and compares its table of numbers, and CHANGELOG.md's version, with the header.
+the paper says; compares the three pictures that README.md opens with with what show draws; computes the bytes that docs/FORMATS.md gives;
+compares its table of numbers, and CHANGELOG.md's version, with the header; and looks up each name in backquotes that docs/ARCHITECTURE.md and
+docs/DECISIONS.md have.
 
 A command is an indented line that begins with "$ "; the indented lines after it are what it prints, ".." standing for any lines. It is run with
 links to the programs and examples in a folder of its own, which the commands of one paper share. Usage: papers.py, from any folder, with the
 programs and host/build/libpedralume.so built."""
 import ctypes
+import fnmatch
 import os
 import re
 import subprocess
@@ -65,6 +68,56 @@ def try_paper(path, folder):
         check(f"{path}: {command}: prints something else", re.fullmatch(pattern_of(lines), run.stdout), run.stdout[:2000])
 
 
+# ---- README's pictures ----
+
+def try_pictures(text):
+    """The panel before the last two records of the repaint, between them and after them, without the blank columns around it."""
+    drawn = []
+    for at in ["252", "253", "254"]:
+        command = [os.path.join(ROOT, "show"), "examples/name.trace", "--repaint", "examples/name.pbm", "--at", at, "--form", "braille"]
+        rows = subprocess.run(command, cwd=ROOT, capture_output=True, text=True, check=True).stdout.split("\n")[1:5]
+        drawn += [row.strip("\u2502\u2800") for row in rows]
+    shown = [line[len(INDENT):].split("   ")[0].strip("\u2800") for line in text.split("\n") if re.match(INDENT + "[\u2800-\u28ff]", line)]
+    check("README.md: its pictures are not what show draws", shown == drawn, "\n".join(drawn))
+    names = re.findall(r"[\u2800-\u28ff]   ([A-Z]+)\b", text)
+    check("README.md: the names beside its pictures", names == ["OLIVEIRA", "MONTEIRA", "MONTEIRO"], names)
+
+
+# ---- names ----
+
+FOLDERS = ["crates", "host", "tools", "sigrok", ".ci", "docs", "examples"]
+
+
+def known():
+    """The paths of the project, and the words in its sources and file names; a path may leave out the folder crates."""
+    paths, said = set(), set()
+    for folder in FOLDERS:
+        for place, folders, files in os.walk(os.path.join(ROOT, folder)):
+            folders[:] = [name for name in folders if name not in ("build", "__pycache__")]
+            for name in folders + files:
+                path = os.path.relpath(os.path.join(place, name), ROOT)
+                paths |= {path, path.removeprefix("crates/")}
+                said.add(os.path.splitext(name)[0])
+            for name in files:
+                with open(os.path.join(place, name), encoding="utf-8", errors="replace") as file:
+                    said |= set(re.findall(r"[\w'-]+", file.read())) if not name.endswith(".md") else set()
+    return paths, said
+
+
+def is_known(name, paths, said):
+    """A path, a pattern of paths, or a name of the sources, also with its type before it or with dots for the rest of it."""
+    path = name.rstrip("/")
+    if path in paths or path in FOLDERS or os.path.exists(os.path.join(ROOT, path)) or any(fnmatch.fnmatch(other, path) for other in paths):
+        return True
+    return all(part in said for part in re.findall(r"[\w'-]+", name))
+
+
+def try_names(path, paths, said):
+    for quoted in sorted(set(re.findall(r"`([^`\n]+)`", read(path)))):
+        name = quoted.split()[0]
+        check(f"{path}: {quoted}: there is no {name}", is_known(name, paths, said))
+
+
 # ---- bytes ----
 
 def lent(content):
@@ -110,8 +163,8 @@ def try_bytes(text):
         ram[320 * chip + 80 * page + column] = byte
         library.call("frame", lent(chips), lent(ram), frame)
         check(f"the frame's byte {place}", bytes(frame) == bytes(byte if at == place else 0 for at in range(488)))
-        told = f"{byte:02X} at page {page}, column {column} of the {'right' if chip else 'left'} chip"
-        check(f"the frame's byte {place} is told", told in flat and f"byte {place}" in flat)
+        said = f"{byte:02X} at page {page}, column {column} of the {'right' if chip else 'left'} chip"
+        check(f"the frame's byte {place} is said", said in flat and f"byte {place}" in flat)
 
 
 def try_picture(text):
@@ -121,7 +174,7 @@ def try_picture(text):
     page, column, *writes = (bytes(records)[4 * (126 + 63):][4 * i:4 * i + 4] for i in range(63))
     check("the picture's page and column", (page, column) == (b"\2\1\xbb\0", b"\2\1\0\0"), words(page + column))
     check("the picture's bytes", writes == [b"\3\1\0\0"] * 60 + [b"\3\1\x80\0"], words(b"".join(writes)))
-    check("the picture is told", "pixel at column 121, row 15 alone is 243 bytes 00 and then 80" in " ".join(text.split()))
+    check("the picture is said", "pixel at column 121, row 15 alone is 243 bytes 00 and then 80" in " ".join(text.split()))
 
 
 # ---- numbers ----
@@ -132,8 +185,8 @@ def try_numbers(text):
     said = re.findall(r'case (PEDRALUME_[A-Z_]+):\s+return "(.*)";', header)
     wanted = sorted((int(values[name]), sentence) for name, sentence in said)
     table = text[text.index("## Numbers"):]
-    told = [(int(number), sentence) for number, sentence in re.findall(r"^\| (\d+) \| ([^|]*) \|", table, re.M)]
-    check("the table of numbers", told == wanted and len(told) == 16, f"{told}\n{wanted}")
+    shown = [(int(number), sentence) for number, sentence in re.findall(r"^\| (\d+) \| ([^|]*) \|", table, re.M)]
+    check("the table of numbers", shown == wanted and len(shown) == 16, f"{shown}\n{wanted}")
 
 
 def try_version():
@@ -146,6 +199,10 @@ def main():
     for path in PAPERS:
         with tempfile.TemporaryDirectory() as folder:
             try_paper(path, folder)
+    try_pictures(read("README.md"))
+    paths, said = known()
+    for path in ["docs/ARCHITECTURE.md", "docs/DECISIONS.md"]:
+        try_names(path, paths, said)
     try_bytes(read("docs/FORMATS.md"))
     try_picture(read("docs/FORMATS.md"))
     try_numbers(read("docs/FORMATS.md"))
