@@ -1,4 +1,4 @@
-"""What a logic analyser records of a bus, made from trace records, and written as CSV or VCD. Only the test uses it."""
+"""What a logic analyser records of a bus, made from trace records, and written as CSV or VCD."""
 
 NAMES = ['d%d' % bit for bit in range(8)] + ['a0', 'rd', 'wr', 'cs0', 'cs1']
 
