@@ -26,8 +26,10 @@ class Run:
 
     def check(self, label, good):
         self.checks += 1
-        if good:
-            return
+        if not good:
+            self.fail(label)
+
+    def fail(self, label):
         if self.damaged:
             raise Stop(label)
         self.failed += 1
