@@ -203,11 +203,12 @@ enum {
 /*
  * Replays a trace.
  *
- * Takes chips (24 bytes), RAM (640 bytes), a trace of at most 65,536 bytes, which are 16,384 records, and answers
- * with 2 bytes or more for each whole record of the trace. Longer traces go through a feed.
- * Gives the records replayed as place, how many reads were compared with the trace, and how many of these differ.
- * Refuses by 1, 2 and 3 before any record, by 4 to 8 and 14 at a record.
- * Leaves chips and RAM as they are after the last record, and 2 bytes of answers for each; the rest of answers
+ * It takes chips (24 bytes), RAM (640 bytes), a trace of at most 65,536 bytes, which are 16,384 records, and
+ * answers with 2 bytes or more for each whole record of the trace. Longer traces go through a feed.
+ * It gives the records replayed as place, how many reads were compared with the trace, and how many of these
+ * differ.
+ * It refuses by 1, 2 and 3 before any record, by 4 to 8 and 14 at a record.
+ * It leaves chips and RAM as they are after the last record, and 2 bytes of answers for each; the rest of answers
  * stays. Refused at a record, it leaves what the records before that one came to, with their answers and counts.
  * Refused by 1 to 3, it leaves every buffer as it came.
  */
@@ -219,10 +220,10 @@ uint64_t pedralume_replay(uint8_t *chips, size_t chips_len,
 /*
  * Draws what the panel shows with these chips and this RAM.
  *
- * Takes chips (24 bytes), RAM (640 bytes) and frame (488 bytes).
- * Gives 488 as place.
- * Refuses by 1 and 2.
- * Leaves all 488 bytes of frame written; refused, it leaves them as they came.
+ * It takes chips (24 bytes), RAM (640 bytes) and frame (488 bytes).
+ * It gives 488 as place.
+ * It refuses by 1 and 2.
+ * It leaves all 488 bytes of frame written; refused, it leaves them as they came.
  */
 uint64_t pedralume_frame(const uint8_t *chips, size_t chips_len,
                          const uint8_t *ram, size_t ram_len,
@@ -231,11 +232,11 @@ uint64_t pedralume_frame(const uint8_t *chips, size_t chips_len,
 /*
  * Writes the 254 bus records that bring a picture of 122 by 16 pixels to the panel. It sends nothing.
  *
- * Takes chips (24 bytes) as they are when the first record is sent, picture (244 bytes) and output (1,016 bytes or
- * more).
- * Gives 254 as place.
- * Refuses by 1 and 2, and chips that are not ready by 9 to 12.
- * Leaves 1,016 bytes of output written and the rest as it was; refused, it leaves all of output as it came.
+ * It takes chips (24 bytes) as they are when the first record is sent, picture (244 bytes) and output (1,016 bytes
+ * or more).
+ * It gives 254 as place.
+ * It refuses by 1 and 2, and chips that are not ready by 9 to 12.
+ * It leaves 1,016 bytes of output written and the rest as it was; refused, it leaves all of output as it came.
  *
  * Sent in order with nobody else on the bus, each record is accepted and leaves both chips ready. The first 252
  * change nothing that is shown; the 253rd brings the left half to the picture, the 254th the right half, with rows
@@ -249,10 +250,10 @@ uint64_t pedralume_repaint(const uint8_t *chips, size_t chips_len,
 /*
  * Begins a replay of a trace that comes in parts.
  *
- * Takes feed (48 bytes, whatever they hold) and chips (24 bytes), which is not a part of feed.
- * Gives 0 as place.
- * Refuses by 1 and 2.
- * Leaves in feed the chips as given, nothing kept over, all counts 0. Refused by 2, it leaves the feed stopped
+ * It takes feed (48 bytes, whatever they hold) and chips (24 bytes), which is not a part of feed.
+ * It gives 0 as place.
+ * It refuses by 1 and 2.
+ * It leaves in feed the chips as given, nothing kept over, all counts 0. Refused by 2, it leaves the feed stopped
  * with that number and place; refused by 1, it leaves feed as it came.
  */
 uint64_t pedralume_feed_open(uint8_t *feed, size_t feed_len,
@@ -262,15 +263,15 @@ uint64_t pedralume_feed_open(uint8_t *feed, size_t feed_len,
  * Goes on with the next part of the trace, cut anywhere: replays the records that the bytes kept over and then the
  * part make whole, and keeps over what is left of a last one. Where the trace is cut makes no difference.
  *
- * Takes feed (48 bytes), RAM (640 bytes, as the part before left them), a part of at most 65,536 bytes, none
- * included, and answers with 2 bytes or more for each record that the part completes:
- * 2 * ((part_len + 3) / 4) bytes are always enough.
- * Gives the records since the opening as place; the counts are in feed.
- * Refuses by 1, 13 and 2 before any record, by 4 to 8 and 14 at a record. But a stopped feed repeats its number
+ * It takes feed (48 bytes), RAM (640 bytes, as the part before left them), a part of at most 65,536 bytes, none
+ * included, and answers with 2 bytes or more for each record that the part completes; for a feed that these calls
+ * wrote, 2 * ((part_len + 3) / 4) bytes are always enough.
+ * It gives the records since the opening as place; the counts are in feed.
+ * It refuses by 1, 13 and 2 before any record, by 4 to 8 and 14 at a record. But a stopped feed repeats its number
  * and place and changes nothing, before every test but that of the 48 bytes.
- * Leaves feed and RAM as they are after the last record, and 2 bytes for each from the start of answers; the rest
- * of answers stays. Refused at a record, it leaves what the records before that one came to, and the feed stopped.
- * Refused by 1, 13 or 2, it leaves every buffer as it came: the next call is as if this one had not been.
+ * It leaves feed and RAM as they are after the last record, and 2 bytes for each from the start of answers; the
+ * rest of answers stays. Refused at a record, it leaves what the records before that one came to, and the feed
+ * stopped. Refused by 1, 13 or 2, it leaves every buffer as it came: the next call is as if this one had not been.
  */
 uint64_t pedralume_feed_part(uint8_t *feed, size_t feed_len,
                              uint8_t *ram, size_t ram_len,
@@ -280,25 +281,25 @@ uint64_t pedralume_feed_part(uint8_t *feed, size_t feed_len,
 /*
  * Ends a feed.
  *
- * Takes feed (48 bytes).
- * Gives number 0, or 3 where bytes are kept over, since the trace then ended inside a record; the place is the
+ * It takes feed (48 bytes).
+ * It gives number 0, or 3 where bytes are kept over, since the trace then ended inside a record; the place is the
  * records since the opening.
- * Refuses by 1 and 2. But a stopped feed repeats its number and place, as at a part.
- * Leaves the feed stopped with the number and place given; chips and counts can still be read. Refused by 1 or 2,
- * it leaves feed as it came.
+ * It refuses by 1 and 2. But a stopped feed repeats its number and place, as at a part.
+ * It leaves the feed stopped with the number and place given; chips and counts can still be read. Refused by 1 or
+ * 2, it leaves feed as it came.
  */
 uint64_t pedralume_feed_close(uint8_t *feed, size_t feed_len);
 
 /*
  * Lists the records of a trace that changed what the panel shows.
  *
- * Takes chips (24 bytes) and RAM (640 bytes) as they are before the trace, a trace of at most 65,536 bytes, and
+ * It takes chips (24 bytes) and RAM (640 bytes) as they are before the trace, a trace of at most 65,536 bytes, and
  * entries of any length: 8 bytes for each record of the trace are always enough. With length 0 it asks how many
  * entries there are. Longer traces are listed in blocks (list_long in the examples).
- * Gives the number of entries as place.
- * Refuses by 1 to 8 and 14 as a replay with answers enough, then by 15.
- * Leaves 8 bytes for each entry from the start of entries, and the rest as it was. Refused, also at a late record,
- * it leaves entries as they came.
+ * It gives the number of entries as place.
+ * It refuses by 1 to 8 and 14 as a replay with answers enough, then by 15.
+ * It leaves 8 bytes for each entry from the start of entries, and the rest as it was. Refused, also at a late
+ * record, it leaves entries as they came.
  */
 uint64_t pedralume_changes(const uint8_t *chips, size_t chips_len,
                            const uint8_t *ram, size_t ram_len,

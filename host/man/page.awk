@@ -4,7 +4,7 @@
 # roff takes a line that begins with a dot or a quote for a request, and a backslash for an escape.
 function plain(text) { gsub(/\\/, "\\e", text); return text ~ /^[.']/ ? "\\&" text : text }
 # A paragraph begins after an empty line of the comment, and at what the call takes, gives, refuses and leaves.
-function sentence(line) { return (apart || line ~ /^(Takes|Gives|Refuses|Leaves) / ? ".PP\n" : "") plain(line) "\n" }
+function sentence(line) { return (apart || line ~ /^It (takes|gives|refuses|leaves) / ? ".PP\n" : "") plain(line) "\n" }
 function section(name, declaration, said) { return ".SS " name "\n.nf\n" declaration ".fi\n.PP\n" said }
 function keep(    name) {
     name = declaration
