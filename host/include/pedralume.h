@@ -11,7 +11,7 @@
  *   pedralume_version     gives the version of the library
  *
  * Chip 0 is the left one, chip 1 the right one. The bytes of each buffer are described in docs/FORMATS.md, and
- * host/examples has a program for each call; both are installed under share/doc/pedralume. This header is for
+ * host/examples has programs that use the calls; both are installed under share/doc/pedralume. This header is for
  * C99 or later, and for C++.
  *
  *
@@ -31,11 +31,12 @@
  *
  * WHAT A CALL GIVES BACK
  *
- * One number of 64 bits: number + 256 * place + 2^24 * compared + 2^40 * differing. Take it apart with
- * pedralume_number, pedralume_place, pedralume_compared and pedralume_differing. The three calls of a feed give
- * number + 256 * place with a place of 32 bits: take these apart with pedralume_number and pedralume_feed_place.
- * Number 0 is done; the others, with their places, are in the table below (PEDRALUME_DONE and after), and
- * pedralume_words has words for each. Compared and differing are 0 for every call but the replay.
+ * Every call but pedralume_version gives one number of 64 bits: number + 256 * place + 2^24 * compared +
+ * 2^40 * differing. Take it apart with pedralume_number, pedralume_place, pedralume_compared and
+ * pedralume_differing; the last two are 0 for frame, repaint and changes. The three calls of a feed give
+ * number + 256 * place, with a place of 32 bits and no counts: take these apart with pedralume_number and
+ * pedralume_feed_place alone. Number 0 is done. The others, with their places, are in the table of numbers
+ * (PEDRALUME_DONE and after), and pedralume_words has words for each.
  *
  *
  * EXAMPLE
@@ -182,9 +183,9 @@ enum {
  * 0, for a feed from its opening.
  */
 enum {
-    PEDRALUME_DONE = 0,              /* done; the place stands at each call */
+    PEDRALUME_DONE = 0,              /* done; what the place is, each call says */
     PEDRALUME_BAD_LENGTH = 1,        /* a length that the call does not take; place 0 */
-    PEDRALUME_BAD_CHIP = 2,          /* chip bytes out of their range; place: the chip. The rest of a feed's: place 3 */
+    PEDRALUME_BAD_CHIP = 2,          /* chip bytes, or the rest of a feed's, out of their range; place: the chip, or 3 */
     PEDRALUME_CUT_TRACE = 3,         /* the trace ends inside a record; place: the whole records before that */
     PEDRALUME_SPARE_BITS = 4,        /* spare line bits or the fourth byte not 0; place: the record */
     PEDRALUME_NO_SUCH_CHIP = 5,      /* a chip over 1; place: the record */
@@ -195,7 +196,7 @@ enum {
     PEDRALUME_WRONG_DUTY = 10,       /* duty 1/32; place: the chip */
     PEDRALUME_WRONG_START_LINE = 11, /* a start line neither 0 nor 16; place: the chip */
     PEDRALUME_RMW_ON = 12,           /* read-modify-write on; place: the chip */
-    PEDRALUME_TOO_MANY = 13,         /* over 4,294,967,295 records since the opening of a feed; place 0 */
+    PEDRALUME_TOO_MANY = 13,         /* with those that the part completes, over 4,294,967,295 records; place 0 */
     PEDRALUME_NO_SUCH_COLUMN = 14,   /* a column set from 50 to 7F; place: the record */
     PEDRALUME_SHORT_ENTRIES = 15     /* an entries buffer too short for the list; place: the entries due */
 };
@@ -204,7 +205,8 @@ enum {
  * Replays a trace.
  *
  * It takes chips (24 bytes), RAM (640 bytes), a trace of at most 65,536 bytes, which are 16,384 records, and
- * answers with 2 bytes or more for each whole record of the trace. Longer traces go through a feed.
+ * answers with 2 bytes or more for each whole record of the trace. Longer traces go through a feed (replay_long in
+ * the examples).
  * It gives the records replayed as place, how many reads were compared with the trace, and how many of these
  * differ.
  * It refuses by 1, 2 and 3 before any record, by 4 to 8 and 14 at a record.
@@ -263,15 +265,16 @@ uint64_t pedralume_feed_open(uint8_t *feed, size_t feed_len,
  * Goes on with the next part of the trace, cut anywhere: replays the records that the bytes kept over and then the
  * part make whole, and keeps over what is left of a last one. Where the trace is cut makes no difference.
  *
- * It takes feed (48 bytes), RAM (640 bytes, as the part before left them), a part of at most 65,536 bytes, none
- * included, and answers with 2 bytes or more for each record that the part completes; for a feed that these calls
- * wrote, 2 * ((part_len + 3) / 4) bytes are always enough.
+ * It takes feed (48 bytes), RAM (640 bytes, as the part before left them), a part of 0 to 65,536 bytes, and answers
+ * with 2 bytes or more for each record that the part completes; for a feed that these calls wrote,
+ * 2 * ((part_len + 3) / 4) bytes are always enough.
  * It gives the records since the opening as place; the counts are in feed.
- * It refuses by 1, 13 and 2 before any record, by 4 to 8 and 14 at a record. But a stopped feed repeats its number
- * and place and changes nothing, before every test but that of the 48 bytes.
- * It leaves feed and RAM as they are after the last record, and 2 bytes for each from the start of answers; the
- * rest of answers stays. Refused at a record, it leaves what the records before that one came to, and the feed
- * stopped. Refused by 1, 13 or 2, it leaves every buffer as it came: the next call is as if this one had not been.
+ * It refuses by 1, 13 and 2 before any record, a part of length 0 too, and by 4 to 8 and 14 at a record. But a
+ * stopped feed repeats its number and place and changes nothing, before every test but that of the 48 bytes.
+ * It leaves feed and RAM as they are after the last record, and 2 bytes for each record replayed from the start of
+ * answers; the rest of answers stays. Refused at a record, it leaves what the records before that one came to, and
+ * the feed stopped with nothing kept over. Refused by 1, 13 or 2, it leaves every buffer as it came: the next call
+ * is as if this one had not been.
  */
 uint64_t pedralume_feed_part(uint8_t *feed, size_t feed_len,
                              uint8_t *ram, size_t ram_len,
@@ -285,8 +288,8 @@ uint64_t pedralume_feed_part(uint8_t *feed, size_t feed_len,
  * It gives number 0, or 3 where bytes are kept over, since the trace then ended inside a record; the place is the
  * records since the opening.
  * It refuses by 1 and 2. But a stopped feed repeats its number and place, as at a part.
- * It leaves the feed stopped with the number and place given; chips and counts can still be read. Refused by 1 or
- * 2, it leaves feed as it came.
+ * It leaves the feed stopped with the number and place given, and changes nothing else of it: chips, counts and
+ * bytes kept over can still be read. Refused by 1 or 2, it leaves feed as it came.
  */
 uint64_t pedralume_feed_close(uint8_t *feed, size_t feed_len);
 
@@ -294,8 +297,9 @@ uint64_t pedralume_feed_close(uint8_t *feed, size_t feed_len);
  * Lists the records of a trace that changed what the panel shows.
  *
  * It takes chips (24 bytes) and RAM (640 bytes) as they are before the trace, a trace of at most 65,536 bytes, and
- * entries of any length: 8 bytes for each record of the trace are always enough. With length 0 it asks how many
- * entries there are. Longer traces are listed in blocks (list_long in the examples).
+ * entries of any length: 8 bytes for each record of the trace are always enough, for any trace
+ * PEDRALUME_ENTRIES_MAX_BYTES. With length 0 it asks how many entries there are: 15 has their number as place, and 0
+ * is given where there are none. Longer traces are listed in blocks (list_long in the examples).
  * It gives the number of entries as place.
  * It refuses by 1 to 8 and 14 as a replay with answers enough, then by 15.
  * It leaves 8 bytes for each entry from the start of entries, and the rest as it was. Refused, also at a late
@@ -307,8 +311,8 @@ uint64_t pedralume_changes(const uint8_t *chips, size_t chips_len,
                            uint8_t *entries, size_t entries_len);
 
 /*
- * The version of the library that the program runs with, as PEDRALUME_VERSION_NUMBER has that of the header: 10203
- * for 1.2.3. It takes nothing, gives no place and refuses nothing.
+ * Gives the version of the library that the program runs with, as PEDRALUME_VERSION_NUMBER has that of the header:
+ * 10203 for 1.2.3. It takes nothing and refuses nothing, and what it gives has no number and no place.
  */
 uint64_t pedralume_version(void);
 

@@ -1,5 +1,5 @@
-# Puts into a page what the header says: its prototypes, a section for each call and for each helper with the comment above its declaration,
-# and its numbers. So the page says of a call what the header does. Usage: awk -f page.awk pedralume.h pedralume.3
+# Puts into a page what the header says: its prototypes, a section for each call and for each helper with the comment above its declaration, who
+# owns what, what a call gives back, and the numbers. So nothing of these is written twice. Usage: awk -f page.awk pedralume.h pedralume.3
 
 # roff takes a line that begins with a dot or a quote for a request, and a backslash for an escape.
 function plain(text) { gsub(/\\/, "\\e", text); return text ~ /^[.']/ ? "\\&" text : text }
@@ -20,11 +20,14 @@ FNR == NR && /^\/\*/ { said = ""; apart = 0; comment = 1 }
 FNR == NR && comment {
     line = $0
     gsub(/^ ?\/?\*+ ?|^ \*$| *\*\/$/, "", line)
-    if (line != "") said = said sentence(line)
-    apart = line == "" && said != ""
-    if (/\*\//) comment = 0
+    if (line ~ /^[A-Z][A-Z ]+$/) { chapter = line; apart = 0 } else {
+        if (line != "") { said = said sentence(line); chapters[chapter] = chapters[chapter] sentence(line) }
+        apart = line == "" && chapters[chapter] != "" && said != ""
+    }
+    if (/\*\//) { comment = 0; chapter = "" }
     next
 }
+FNR == NR && /^enum/ && said ~ /^Numbers given back/ { order = said }
 FNR == NR && /^    PEDRALUME_[A-Z_]* = [0-9]*,? *\/\* / {
     number = text = $0
     sub(/^.* = /, "", number)
@@ -44,6 +47,8 @@ FNR == NR && open {
 }
 FNR == NR { if ($0 != "") said = ""; next }
 
+/^@OWNS@$/ { printf "%s", chapters["WHO OWNS WHAT"]; next }
+/^@GIVES@$/ { printf "%s.PP\n%s", chapters["WHAT A CALL GIVES BACK"], order; next }
 /^@PROTOTYPES@$/ { printf "%s", prototypes; next }
 /^@CALLS@$/ { printf "%s", calls; next }
 /^@HELPERS@$/ { printf "%s", helpers; next }

@@ -67,7 +67,7 @@ const char usage[] =
     "  --records FILE     with --repaint: the records of it that are sent, a trace\n"
     "A file that is read is not written over. Nothing is shown or written of a trace\n"
     "that is refused, but with --live what came before it. --at N shows the panel\n"
-    "before record N; the program text, or pedralume-text, tells each record, and\n"
+    "before record N; the program text, or pedralume-text, prints each record, and\n"
     "can go on past a refused one.\n"
     "\n"
     "  -h, --help         print this\n"

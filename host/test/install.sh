@@ -38,7 +38,8 @@ names() { (cd "$1" && find . ! -type d | sort); } # FOLDER
 # ---- installed, twice, and under DESTDIR ----
 
 calls="changes feed_close feed_open feed_part frame repaint replay version"
-helpers="compared differing entry_left entry_record entry_right feed_compared feed_differing feed_field feed_place feed_records number pixel place words"
+helpers="compared differing entry_left entry_record entry_right feed_compared feed_differing feed_field feed_place feed_records"
+helpers="$helpers number pixel place words"
 examples="changes frame list_long recorder repaint replay_long"
 version=$(sed -nE 's/^#define PEDRALUME_VERSION_(MAJOR|MINOR|PATCH) //p' host/include/pedralume.h | paste -sd .)
 major=${version%%.*}
@@ -255,11 +256,15 @@ check "pedralume.3: other prototypes than the header has" same "$(section SYNOPS
 sections() { section "$1" "$page3" | sed -n 's/^\.SS pedralume_//p' | sort | paste -sd ' '; } # NAME
 check "pedralume.3: sections of other calls" same "$(sections CALLS)" "$calls"
 check "pedralume.3: sections of other helpers" same "$(sections HELPERS)" "$helpers"
-for function in $calls $helpers; do
-    said=$(awk -v name=".SS pedralume_$function" '$0 == name { on = 1; next } /^\.S[SH]/ { on = 0 } on && /^\.fi$/ { said = 1; next } on && said && !/^\./' "$page3")
-    check "pedralume.3: says nothing of $function" [ -n "$said" ]
-done
-check "pedralume.3: not one number for each of 0 to 15" same "$(section "RETURN VALUE" "$page3" | sed -n '/^\.TP$/{n;p;}' | paste -sd ' ')" "$(seq 0 15 | paste -sd ' ')"
+said() { # FUNCTION: the sentences under its prototype
+    awk -v name=".SS pedralume_$1" '$0 == name { on = 1; next } /^\.S[SH]/ { on = said = 0 } on && /^\.fi$/ { said = 1; next }
+        said && !/^\./' "$page3"
+}
+for function in $calls $helpers; do check "pedralume.3: says nothing of $function" [ -n "$(said "$function")" ]; done
+numbers=$(section "RETURN VALUE" "$page3" | sed -n '/^\.TP$/{n;p;}' | paste -sd ' ')
+check "pedralume.3: not one number for each of 0 to 15" same "$numbers" "$(seq 0 15 | paste -sd ' ')"
+check "pedralume.3: does not say who owns what" grep -q "No alignment is asked" "$page3"
+check "pedralume.3: does not say in which order numbers are tested" grep -q "13 comes right after 1" "$page3"
 check "pedralume.3: not one section of files" same "$(grep -cx '.SH FILES' "$page3")" 1
 check "a page with another version" same "$(cd "$prefix/share/man" && grep -LF "\"Pedralume $version\"" man?/*)" ""
 check "a placeholder that stays" same "$(grep -rIlE '@[A-Z]+@' "$prefix")" ""
