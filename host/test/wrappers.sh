@@ -143,14 +143,14 @@ cp -p "$work/stamp" target/stamp/replay
 run ./replay examples/listing.trace; replayed "the source as it was"
 rm target/bin/replay
 rt_is "[ ! -e target/stamp/replay ] && cp ../program target/bin/replay"
-run ./replay examples/listing.trace; ended "nothing built" 0 "replay: proving and building, up to two minutes"
+run ./replay examples/listing.trace; ended "nothing built" 0 "replay: proving and building, two to four minutes"
 printed "nothing built" crates/replay/stdout
 cp -p "$work/stamp" target/stamp/replay
 rt_is "$real"
 
 # ---- show: as it is, and built anew where a source is newer ----
 
-shown() { printed "$1" "$work/shown"; called "$1" "$2"; ended "$1" 0 "${2:+show: proving and building, up to three minutes}"; } # LABEL CALLS
+shown() { printed "$1" "$work/shown"; called "$1" "$2"; ended "$1" 0 "${2:+show: proving and building, two to four minutes}"; } # LABEL CALLS
 run ./show examples/name.trace; shown "show" ""
 ln -s "$PWD/show" "$work/folder/show"
 cp examples/name.trace "$work/folder/n"
@@ -176,7 +176,7 @@ for source in crates.txt crates/frame/src/lib.rt crates/sed1520/specs/Chip.antt;
 done
 touch crates.txt
 rt_is "cat >/dev/null; touch $archive"
-run ./show --live <examples/name.trace; ended "show --live, built first" 0 "show: proving and building, up to three minutes"
+run ./show --live <examples/name.trace; ended "show --live, built first" 0 "show: proving and building, two to four minutes"
 printed "show --live, built first" "$work/live"
 rt_is "touch $archive; sleep 0.1; touch crates/frame/src/lib.rt; sleep 0.1; touch $archive"
 touch crates.txt
