@@ -48,6 +48,7 @@ int main(void)
     printf("number %u, place %u, compared %u, differing %u\n", pedralume_number(answer),
            (unsigned)pedralume_feed_place(answer), (unsigned)pedralume_feed_compared(feed),
            (unsigned)pedralume_feed_differing(feed));
+    memset(ram, 0, sizeof ram);
     answer = replay_long(feed, ram, chips, trace, sizeof trace - 1);
     printf("without its last byte: number %u, place %u\n", pedralume_number(answer),
            (unsigned)pedralume_feed_place(answer));

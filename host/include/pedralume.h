@@ -31,12 +31,12 @@
  *
  * WHAT A CALL GIVES BACK
  *
- * Every call but pedralume_version gives one number of 64 bits: number + 256 * place + 2^24 * compared +
- * 2^40 * differing. Take it apart with pedralume_number, pedralume_place, pedralume_compared and
- * pedralume_differing; the last two are 0 for frame, repaint and changes. The three calls of a feed give
- * number + 256 * place, with a place of 32 bits and no counts: take these apart with pedralume_number and
- * pedralume_feed_place alone. Number 0 is done. The others, with their places, are in the table of numbers
- * (PEDRALUME_DONE and after), and pedralume_words has words for each.
+ * Replay, frame, repaint and changes give number + 256 * place + 2^24 * compared + 2^40 * differing. Take it apart
+ * with pedralume_number, pedralume_place, pedralume_compared and pedralume_differing; the last two are 0 for all
+ * but the replay. The three calls of a feed give number + 256 * place, with a place of 32 bits: take it apart with
+ * pedralume_number and pedralume_feed_place alone, and read the counts in the feed's bytes. Number 0 is done. The
+ * others, with their places, are in the table of numbers (PEDRALUME_DONE and after), and pedralume_words has words
+ * for each.
  *
  *
  * EXAMPLE
@@ -269,8 +269,8 @@ uint64_t pedralume_feed_open(uint8_t *feed, size_t feed_len,
  * with 2 bytes or more for each record that the part completes; for a feed that these calls wrote,
  * 2 * ((part_len + 3) / 4) bytes are always enough.
  * It gives the records since the opening as place; the counts are in feed.
- * It refuses by 1, 13 and 2 before any record, a part of length 0 too, and by 4 to 8 and 14 at a record. But a
- * stopped feed repeats its number and place and changes nothing, before every test but that of the 48 bytes.
+ * It refuses by 1, 13 and 2 before any record, also where the part has length 0, and by 4 to 8 and 14 at a record.
+ * But a stopped feed repeats its number and place and changes nothing, before every test but that of the 48 bytes.
  * It leaves feed and RAM as they are after the last record, and 2 bytes for each record replayed from the start of
  * answers; the rest of answers stays. Refused at a record, it leaves what the records before that one came to, and
  * the feed stopped with nothing kept over. Refused by 1, 13 or 2, it leaves every buffer as it came: the next call

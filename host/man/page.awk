@@ -29,11 +29,9 @@ FNR == NR && comment {
 }
 FNR == NR && /^enum/ && said ~ /^Numbers given back/ { order = said }
 FNR == NR && /^    PEDRALUME_[A-Z_]* = [0-9]*,? *\/\* / {
-    number = text = $0
-    sub(/^.* = /, "", number)
-    sub(/[^0-9].*/, "", number)
+    text = $0
     gsub(/^.*\/\* | \*\/$/, "", text)
-    numbers = numbers ".TP\n" number "\n" plain(text) "\n"
+    numbers = numbers ".TP\n" $3 + 0 "\n" $1 ": " text "\n"
     next
 }
 FNR == NR && /^(static inline|uint64_t) / { open = 1 }

@@ -149,7 +149,7 @@ static size_t expect_changes(const struct view *given, const struct trace *t, st
     return count;
 }
 
-/* ---- the header's example ---- */
+/* ---- the example of FORMATS.md and of host/examples/changes.c ---- */
 
 static const uint8_t seen[6 * PEDRALUME_RECORD_BYTES] = {
     PEDRALUME_COMMAND_WRITE, 0, 0xAF, 0,
@@ -166,7 +166,7 @@ static const uint8_t seen_entries[3 * PEDRALUME_ENTRY_BYTES] = {
     0x05, 0x00, 0x00, 0x00, 0x9C, 0x07, 0x00, 0x00
 };
 
-static void test_header_example(void)
+static void test_written_example(void)
 {
     static const uint8_t fresh[PEDRALUME_CHIPS_BYTES] = { PEDRALUME_FRESH_CHIP, PEDRALUME_FRESH_CHIP };
     static const uint8_t empty[PEDRALUME_RAM_BYTES] = { 0 };
@@ -699,7 +699,7 @@ static void test_rooms(void)
 
 int main(void)
 {
-    test_header_example();
+    test_written_example();
     test_entry_readers();
     test_switches(0);
     test_switches(1);

@@ -1,7 +1,7 @@
 /*
  * The tests of each call judge with this: checks that are counted and reported by the line they stand in,
  * columns to be given, and document 01's pixels. The program names itself in PROGRAM first, by the name of its
- * file. All is static inline, as in support.h.
+ * file. All is static, as in support.h.
  */
 #ifndef CHECK_H
 #define CHECK_H

@@ -44,18 +44,18 @@ static void open_intake(struct intake *n)
     CHECK_FEED(pedralume_feed_open(n->feed, FEED, chips, CHIPS), 0, 0);
 }
 
-struct part {
+struct lengths {
     size_t feed, ram, part, answers;
 };
 
-static uint64_t take_by(struct intake *n, const uint8_t *bytes, struct part len)
+static uint64_t take_by(struct intake *n, const uint8_t *bytes, struct lengths len)
 {
     return pedralume_feed_part(n->feed, len.feed, n->ram, len.ram, bytes, len.part, n->answers, len.answers);
 }
 
 static uint64_t take(struct intake *n, const uint8_t *bytes, size_t len)
 {
-    return take_by(n, bytes, (struct part){ FEED, RAM, len, ANSWERS });
+    return take_by(n, bytes, (struct lengths){ FEED, RAM, len, ANSWERS });
 }
 
 static uint64_t end(struct intake *n)
@@ -66,7 +66,7 @@ static uint64_t end(struct intake *n)
 /* ---- what stays ---- */
 
 /* This answer, and nothing changes. */
-static void check_part_stays(const struct intake *given, const uint8_t *bytes, struct part len, unsigned number, uint64_t place, int line)
+static void check_part_stays(const struct intake *given, const uint8_t *bytes, struct lengths len, unsigned number, uint64_t place, int line)
 {
     static struct intake n;
     n = *given;
@@ -89,7 +89,7 @@ static void check_close_stays(const struct intake *given, size_t len, unsigned n
 static void check_stopped(const struct intake *n, unsigned number, uint64_t place)
 {
     static const uint8_t bytes[TRACE_MAX + 1] = { 0xFF, 0xFF, 0xFF, 0xFF, 0xFF };
-    static const struct part lent[] = {
+    static const struct lengths lent[] = {
         { FEED, RAM, 0, 0 },       { FEED, RAM, 4, 2 },             { FEED, RAM, 5, ANSWERS },
         { FEED, 0, 0, 0 },         { FEED, RAM - 1, 4, ANSWERS },   { FEED, RAM, 4, 0 },
         { FEED, RAM + 1, 4, 1 },   { FEED, RAM, TRACE_MAX + 1, ANSWERS }, { FEED, RAM, TRACE_MAX, 1 },
@@ -97,8 +97,8 @@ static void check_stopped(const struct intake *n, unsigned number, uint64_t plac
     for (size_t i = 0; i < sizeof lent / sizeof lent[0]; i++)
         PART_STAYS(n, bytes, lent[i], number, place);
     CLOSE_STAYS(n, FEED, number, place);
-    PART_STAYS(n, bytes, ((struct part){ FEED - 1, RAM, 4, 2 }), 1, 0);     /* the 48 come before */
-    PART_STAYS(n, bytes, ((struct part){ FEED + 1, RAM, 4, 2 }), 1, 0);
+    PART_STAYS(n, bytes, ((struct lengths){ FEED - 1, RAM, 4, 2 }), 1, 0);     /* the 48 come before */
+    PART_STAYS(n, bytes, ((struct lengths){ FEED + 1, RAM, 4, 2 }), 1, 0);
     CLOSE_STAYS(n, FEED - 1, 1, 0);
     CLOSE_STAYS(n, FEED + 1, 1, 0);
 }
@@ -138,7 +138,7 @@ static void take_and_check(struct intake *n, const struct trace *t, size_t from,
     static struct intake want;
     memset(n->answers, 0xEE, sizeof n->answers);
     size_t room = 2 * (to / RECORD - from / RECORD);
-    CHECK_FEED(take_by(n, t->bytes + from, (struct part){ FEED, RAM, to - from, room }), 0, to / RECORD);
+    CHECK_FEED(take_by(n, t->bytes + from, (struct lengths){ FEED, RAM, to - from, room }), 0, to / RECORD);
     expect_last_part(&want, t, from, to);
     CHECK(same_intake(n, &want));
 }
@@ -295,14 +295,12 @@ static void test_feed_cursor(void)
 static void test_feed_refused_at(const struct trace *t, size_t cut, unsigned number)
 {
     static struct intake n, want;
-    size_t good = t->len - 3 * RECORD, first = cut < good ? cut : good / RECORD * RECORD;
+    size_t good = t->len - 3 * RECORD, first = cut < good ? cut : good;
     open_intake(&n);
     CHECK_FEED(take(&n, t->bytes, cut), cut < good + RECORD ? 0 : number, cut < good + RECORD ? cut / RECORD : 10);
     memset(n.answers, 0xEE, sizeof n.answers);
     CHECK_FEED(take(&n, t->bytes + cut, t->len - cut), number, 10);
     expect_last_part(&want, t, first, good);
-    if (cut >= good + RECORD)
-        memset(want.answers, 0xEE, sizeof want.answers);
     set_feed_stop(want.feed, 1, number, 10);
     CHECK(same_intake(&n, &want));
     check_stopped(&n, number, 10);
@@ -380,18 +378,18 @@ static void test_part_lengths(void)
     busy_intake(&n, &t);
     const uint8_t *last = t.bytes + t.len - 1;
     for (unsigned i = 0; i < 4; i++) {
-        PART_STAYS(&n, last, ((struct part){ feed[i], RAM, 1, 2 }), 1, 0);
-        PART_STAYS(&n, last, ((struct part){ FEED, ram[i], 1, 2 }), 1, 0);
-        PART_STAYS(&n, last, ((struct part){ FEED, ram[i], 0, 0 }), 1, 0);
+        PART_STAYS(&n, last, ((struct lengths){ feed[i], RAM, 1, 2 }), 1, 0);
+        PART_STAYS(&n, last, ((struct lengths){ FEED, ram[i], 1, 2 }), 1, 0);
+        PART_STAYS(&n, last, ((struct lengths){ FEED, ram[i], 0, 0 }), 1, 0);
         CLOSE_STAYS(&n, feed[i], 1, 0);
     }
     for (size_t len = 0; len < 40; len++)                           /* room for what the part completes */
         if ((len + 3) / 4 > 0)
-            PART_STAYS(&n, last, ((struct part){ FEED, RAM, len, (len + 3) / 4 * 2 - 1 }), 1, 0);
-    PART_STAYS(&n, t.bytes, ((struct part){ FEED, RAM, TRACE_MAX + 1, sizeof n.answers }), 1, 0);
-    PART_STAYS(&n, t.bytes, ((struct part){ FEED, RAM, TRACE_MAX + 4, sizeof n.answers }), 1, 0);
-    PART_STAYS(&n, t.bytes, ((struct part){ FEED, RAM, TRACE_MAX, ANSWERS - 1 }), 1, 0);
-    PART_STAYS(&n, t.bytes, ((struct part){ FEED, RAM, 0, 0 }), 0, 10);     /* of length 0: taken */
+            PART_STAYS(&n, last, ((struct lengths){ FEED, RAM, len, (len + 3) / 4 * 2 - 1 }), 1, 0);
+    PART_STAYS(&n, t.bytes, ((struct lengths){ FEED, RAM, TRACE_MAX + 1, sizeof n.answers }), 1, 0);
+    PART_STAYS(&n, t.bytes, ((struct lengths){ FEED, RAM, TRACE_MAX + 4, sizeof n.answers }), 1, 0);
+    PART_STAYS(&n, t.bytes, ((struct lengths){ FEED, RAM, TRACE_MAX, ANSWERS - 1 }), 1, 0);
+    PART_STAYS(&n, t.bytes, ((struct lengths){ FEED, RAM, 0, 0 }), 0, 10);     /* of length 0: taken */
     check_goes_on(&n, &t);
 }
 
@@ -414,16 +412,16 @@ static void check_bad_feed(const struct intake *bad, const struct trace *t, unsi
 {
     static struct intake n;
     const uint8_t *last = t->bytes + t->len - 1;
-    const struct part zero = { FEED, RAM, 0, ANSWERS }, one = { FEED, RAM, 1, ANSWERS };
+    const struct lengths zero = { FEED, RAM, 0, ANSWERS }, one = { FEED, RAM, 1, ANSWERS };
     PART_STAYS(bad, last, zero, 2, place);
     PART_STAYS(bad, last, one, 2, place);
     CLOSE_STAYS(bad, FEED, 2, place);
-    PART_STAYS(bad, last, ((struct part){ FEED, RAM - 1, 1, ANSWERS }), 1, 0);
-    PART_STAYS(bad, last, ((struct part){ FEED, RAM, 4, 1 }), 1, 0);
+    PART_STAYS(bad, last, ((struct lengths){ FEED, RAM - 1, 1, ANSWERS }), 1, 0);
+    PART_STAYS(bad, last, ((struct lengths){ FEED, RAM, 4, 1 }), 1, 0);
     n = *bad;
     set_feed_field(n.feed, PEDRALUME_FEED_RECORDS, PEDRALUME_FEED_MAX_RECORDS);
-    PART_STAYS(&n, last, ((struct part){ FEED, RAM, 4, ANSWERS }), 13, 0);
-    PART_STAYS(&n, last, ((struct part){ FEED, RAM, 4, 1 }), 1, 0);         /* 1 before 13 */
+    PART_STAYS(&n, last, ((struct lengths){ FEED, RAM, 4, ANSWERS }), 13, 0);
+    PART_STAYS(&n, last, ((struct lengths){ FEED, RAM, 4, 1 }), 1, 0);         /* 1 before 13 */
     set_feed_stop(n.feed, 1, 7, 99);
     check_stopped(&n, 7, 99);
 }
@@ -444,7 +442,7 @@ static void test_bad_feeds(void)
             bad = good;
             bad.feed[bad_bytes[i].at] = bad_bytes[i].value;
             bad.feed[bad_bytes[j].at] = bad_bytes[j].value;
-            PART_STAYS(&bad, t.bytes, ((struct part){ FEED, RAM, 0, ANSWERS }), 2, here < there ? here : there);
+            PART_STAYS(&bad, t.bytes, ((struct lengths){ FEED, RAM, 0, ANSWERS }), 2, here < there ? here : there);
             CLOSE_STAYS(&bad, FEED, 2, here < there ? here : there);
         }
     }
@@ -473,7 +471,7 @@ static void test_feed_columns(void)
     for (unsigned way = 0; way < COLUMN_WAYS; way++) {
         n = good;
         struct given_column c = put_column(n.feed, way);
-        PART_STAYS(&n, t.bytes, ((struct part){ FEED, RAM, 0, ANSWERS }), c.number, c.number == 0 ? 10 : c.place);
+        PART_STAYS(&n, t.bytes, ((struct lengths){ FEED, RAM, 0, ANSWERS }), c.number, c.number == 0 ? 10 : c.place);
         if (c.number != 0)
             CLOSE_STAYS(&n, FEED, c.number, c.place);
         else
@@ -492,13 +490,13 @@ static void test_kept_count_over(void)
             size_t completed = (kept + len) / 4;
             n.feed[PEDRALUME_FEED_KEPT_COUNT] = (uint8_t)kept;
             set_feed_counts(n.feed, 10, 4, 2);
-            PART_STAYS(&n, t.bytes, ((struct part){ FEED, RAM, len, 2 * completed - 1 }), 1, 0);
-            PART_STAYS(&n, t.bytes, ((struct part){ FEED, RAM, len, 2 * completed }), 2, 3);
+            PART_STAYS(&n, t.bytes, ((struct lengths){ FEED, RAM, len, 2 * completed - 1 }), 1, 0);
+            PART_STAYS(&n, t.bytes, ((struct lengths){ FEED, RAM, len, 2 * completed }), 2, 3);
             set_feed_counts(n.feed, (uint32_t)(PEDRALUME_FEED_MAX_RECORDS - completed), 4, 2);
-            PART_STAYS(&n, t.bytes, ((struct part){ FEED, RAM, len, 2 * completed }), 2, 3);
+            PART_STAYS(&n, t.bytes, ((struct lengths){ FEED, RAM, len, 2 * completed }), 2, 3);
             set_feed_counts(n.feed, (uint32_t)(PEDRALUME_FEED_MAX_RECORDS - completed + 1), 4, 2);
-            PART_STAYS(&n, t.bytes, ((struct part){ FEED, RAM, len, 2 * completed }), 13, 0);
-            PART_STAYS(&n, t.bytes, ((struct part){ FEED, RAM, len, 2 * completed - 1 }), 1, 0);
+            PART_STAYS(&n, t.bytes, ((struct lengths){ FEED, RAM, len, 2 * completed }), 13, 0);
+            PART_STAYS(&n, t.bytes, ((struct lengths){ FEED, RAM, len, 2 * completed - 1 }), 1, 0);
         }
 }
 
@@ -521,17 +519,17 @@ static void test_most_records(void)
 {
     static const uint8_t reads[3 * RECORD] = { 4, 0, 0x61, 0, 4, 1, 0x60, 0, 4, 0, 0x62, 0 };
     const uint32_t most = PEDRALUME_FEED_MAX_RECORDS;
-    const struct part three = { FEED, RAM, sizeof reads, ANSWERS };
+    const struct lengths three = { FEED, RAM, sizeof reads, ANSWERS };
     static struct intake n;
     for (uint32_t room = 0; room < 3; room++) {                     /* one record too many: not one is taken */
         late_intake(&n, most - room, most - room, most - room);
         PART_STAYS(&n, reads, three, 13, 0);
         CHECK_FEED(take(&n, reads, RECORD * room), 0, most);
         check_counts(&n, most, most, most - room + (room > 0));
-        PART_STAYS(&n, reads, ((struct part){ FEED, RAM, 4, ANSWERS }), 13, 0);
+        PART_STAYS(&n, reads, ((struct lengths){ FEED, RAM, 4, ANSWERS }), 13, 0);
         CHECK_FEED(take(&n, reads, 3), 0, most);                    /* what completes none is taken */
-        PART_STAYS(&n, reads + 3, ((struct part){ FEED, RAM, 1, ANSWERS }), 13, 0);
-        PART_STAYS(&n, reads + 3, ((struct part){ FEED, RAM, 0, ANSWERS }), 0, most);
+        PART_STAYS(&n, reads + 3, ((struct lengths){ FEED, RAM, 1, ANSWERS }), 13, 0);
+        PART_STAYS(&n, reads + 3, ((struct lengths){ FEED, RAM, 0, ANSWERS }), 0, most);
         CHECK_FEED(end(&n), 3, most);
         check_stopped(&n, 3, most);
     }
@@ -548,7 +546,7 @@ static void test_late_refusal(void)
     static const uint8_t bytes[2 * RECORD] = { 4, 0, 0x60, 0, 2, 0, 0x80, 0 };
     static struct intake n;
     late_intake(&n, PEDRALUME_FEED_MAX_RECORDS - 1, 7, 7);
-    PART_STAYS(&n, bytes, ((struct part){ FEED, RAM, sizeof bytes, ANSWERS }), 13, 0);
+    PART_STAYS(&n, bytes, ((struct lengths){ FEED, RAM, sizeof bytes, ANSWERS }), 13, 0);
     CHECK_FEED(take(&n, bytes + RECORD, RECORD), 7, PEDRALUME_FEED_MAX_RECORDS - 1);
     check_stopped(&n, 7, PEDRALUME_FEED_MAX_RECORDS - 1);
     late_intake(&n, PEDRALUME_FEED_MAX_RECORDS - 2, 7, 7);
@@ -642,7 +640,7 @@ static void test_feed_copy(void)
     CHECK(memcmp(copy.feed, n.feed, FEED) == 0 && memcmp(copy.ram, n.ram, RAM) == 0);
 }
 
-/* The recorder's loop of the header on the printed listing's trace, in parts of this length. */
+/* A recorder's loop, as in host/examples/recorder.c, on the printed listing's trace, in parts of this length. */
 static size_t loop_listing(char *text, size_t room, struct intake *n, size_t length)
 {
     size_t used = 0;

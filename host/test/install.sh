@@ -98,7 +98,7 @@ END
     check "a call from Python: '$(python3 "$work/call.py" "$library" 2>&1)'" same "$(python3 "$work/call.py" "$library" 2>&1)" "0 488 True"
 fi
 
-# ---- the header's example: a block of code begins with the line given and ends before the next line with nothing ----
+# ---- the header's example: it begins where chips are declared and ends before the next empty line ----
 
 header=$prefix/include/pedralume.h
 sed -n 's/^ \*$/ *   /; s/^ \*   //p' "$header" |
@@ -216,6 +216,7 @@ run "$replay" examples/listing.trace; ended "pedralume-replay, no program" 1 "$p
 mv "$work/away" "$prefix/lib/pedralume/replay"
 for program in $programs; do
     run "$prefix/bin/pedralume-$program" examples/name.trace; good "pedralume-$program"
+    check "pedralume-$program: prints nothing" [ -s "$work/out" ]
     run "$prefix/bin/pedralume-$program" --foo
     check "pedralume-$program --foo: status $status" same "$status" 2
     check "pedralume-$program --foo: says '$(cat "$work/err")'" same "$(cat "$work/err")" \
@@ -223,7 +224,6 @@ for program in $programs; do
     run "$prefix/bin/pedralume-$program" --help; good "pedralume-$program --help"
     check "pedralume-$program --help: names" same "$(sed -n '1s/ \[.*//p; 2s/ --.*//p' "$work/out" | paste -sd '|')" \
         "Usage: pedralume-$program|       pedralume-$program"
-    check "pedralume-$program: prints nothing" [ -s "$work/out" ]
 done
 
 # ---- the man pages ----

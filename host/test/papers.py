@@ -1,8 +1,8 @@
 #!/usr/bin/env python3
 """Holds the papers to what the programs do: runs each command that README.md or docs/FORMATS.md shows, and compares what it prints with what
-the paper says; compares the three pictures that README.md opens with with what show draws; computes the bytes that docs/FORMATS.md gives;
-compares its table of numbers, and CHANGELOG.md's version, with the header; and looks up each name in backquotes that docs/ARCHITECTURE.md and
-docs/DECISIONS.md have.
+the paper says; compares the three pictures that README.md opens with, with what show draws; computes the bytes that docs/FORMATS.md gives;
+compares its table of numbers, and CHANGELOG.md's version, with the header; and looks up what docs/ARCHITECTURE.md, docs/DECISIONS.md and
+docs/PROMISES.md cite: each path, and each name in backquotes.
 
 A command is an indented line that begins with "$ "; the indented lines after it are what it prints, ".." standing for any lines. It is run with
 links to the programs and examples in a folder of its own, which the commands of one paper share. Usage: papers.py, from any folder, with the
@@ -59,7 +59,7 @@ def pattern_of(lines):
 
 
 def try_paper(path, folder):
-    for name in ["replay", "show", "text", "examples", "sigrok"]:
+    for name in ["replay", "show", "text", "examples"]:
         os.symlink(os.path.join(ROOT, name), os.path.join(folder, name))
     environment = dict(os.environ, LC_ALL="C.UTF-8")
     for command, lines in commands_of(read(path)):
@@ -86,17 +86,23 @@ def try_pictures(text):
 # ---- names ----
 
 FOLDERS = ["crates", "host", "tools", "sigrok", ".ci", "docs", "examples"]
+# What is cited and is none of the project's: the commission's papers, what the kit makes or prints, patterns, and the rest of a name.
+NO_PATHS = {"01-scope.md", "02-change-requests.md", "target/stamp/NAME", "*/proofs/Name.antt", "proofs/.../f/Proof.antt", "1/16", "1/32"}
+NO_NAMES = {"axioms=2", "_part", "_close"}
+
+
+# A path has a folder or the ending of a file; in a name the dots of a pattern stand for its rest.
+PATH = re.compile(r"[\w.*+-]*/[\w./*+-]*[\w*/]|[\w-]+\.(?:rt|antt|c|h|sh|py|md|awk|edit)\b")
 
 
 def known():
-    """The paths of the project, and the words in its sources and file names; a path may leave out the folder crates."""
-    paths, said = set(), set()
+    """The paths of the project, and the words in its sources and file names."""
+    paths, said = [".ci/run", "crates.txt"], set()
     for folder in FOLDERS:
         for place, folders, files in os.walk(os.path.join(ROOT, folder)):
             folders[:] = [name for name in folders if name not in ("build", "__pycache__")]
             for name in folders + files:
-                path = os.path.relpath(os.path.join(place, name), ROOT)
-                paths |= {path, path.removeprefix("crates/")}
+                paths.append(os.path.relpath(os.path.join(place, name), ROOT))
                 said.add(os.path.splitext(name)[0])
             for name in files:
                 with open(os.path.join(place, name), encoding="utf-8", errors="replace") as file:
@@ -104,18 +110,20 @@ def known():
     return paths, said
 
 
-def is_known(name, paths, said):
-    """A path, a pattern of paths, or a name of the sources, also with its type before it or with dots for the rest of it."""
-    path = name.rstrip("/")
-    if path in paths or path in FOLDERS or os.path.exists(os.path.join(ROOT, path)) or any(fnmatch.fnmatch(other, path) for other in paths):
-        return True
-    return all(part in said for part in re.findall(r"[\w'-]+", name))
+def is_path(name, paths):
+    """A path, or the end of one as a paper cites it, such as bus.rt or trace/src/lib.rt; a star stands for anything."""
+    name = name.removeprefix("./").rstrip("/")
+    return name in FOLDERS or os.path.exists(os.path.join(ROOT, name)) or any(
+        fnmatch.fnmatch(path, name) or fnmatch.fnmatch(path, "*/" + name) for path in paths)
 
 
 def try_names(path, paths, said):
-    for quoted in sorted(set(re.findall(r"`([^`\n]+)`", read(path)))):
-        name = quoted.split()[0]
-        check(f"{path}: {quoted}: there is no {name}", is_known(name, paths, said))
+    text = read(path)
+    quoted = re.findall(r"`([^`\n]+)`", text)
+    for name in sorted(set(PATH.findall(text)) - NO_PATHS):
+        check(f"{path}: there is no {name}", is_path(name, paths))
+    for name in sorted({words.split()[0] for words in quoted if not PATH.search(words)} - NO_NAMES):
+        check(f"{path}: there is no {name}", all(part in said for part in re.findall(r"[\w'-]+", name)))
 
 
 # ---- bytes ----
@@ -134,7 +142,7 @@ class Library:
         return function(*(argument for buffer in buffers for argument in (buffer, ctypes.c_size_t(len(buffer)))))
 
 
-def words(content):
+def hex_of(content):
     return bytes(content).hex(" ").upper()
 
 
@@ -144,19 +152,19 @@ def try_bytes(text):
     feed, ram = lent([0xEE] * 48), lent([0] * 640)
     library.call("feed_open", feed, lent(FRESH))
     library.call("feed_part", feed, ram, lent(bytes.fromhex("02000A000300")), lent([0] * 4))
-    check("the feed bytes", words(feed) in flat, words(feed))
+    check("the feed bytes", hex_of(feed) in flat, hex_of(feed))
     trace = re.findall(r"`((?:[0-9A-F]{2} ){3}00)`", text[text.index("## Entry of a change"):text.index("have the entries")])
     entries = lent([0] * 48)
     answer = library.call("changes", lent(FRESH), lent([0] * 640), lent(bytes.fromhex("".join(trace))), entries)
     check("the entries' number", answer == 256 * 3, hex(answer))
-    check("the entries", words(entries)[:3 * 24 - 1] in flat, words(entries))
+    check("the entries", hex_of(entries)[:3 * 24 - 1] in flat, hex_of(entries))
     listing = lent(open(os.path.join(ROOT, "examples/listing.trace"), "rb").read())
     answer = library.call("replay", lent(FRESH), lent([0] * 640), listing, lent([0] * 18))
     check("the 64-bit answer", f"`{answer:#x}`" in flat, hex(answer))
     refused = re.search(r"that of `([0-9A-F ]*)`", flat).group(1)
     answer = library.call("replay", lent(FRESH), lent([0] * 640), lent(bytes.fromhex(refused)), lent([0] * 4))
     check("the 64-bit answer of a refusal", f"number {answer & 255} at record {answer >> 8}, gives `{answer:#x}`" in flat, hex(answer))
-    check("the fresh chip", f"`{words(FRESH[:12])}`" in flat)
+    check("the fresh chip", f"`{hex_of(FRESH[:12])}`" in flat)
     for chip, page, column, byte, place in [(0, 0, 0, 0x01, 0), (1, 3, 60, 0x80, 487)]:
         chips, ram, frame = bytearray(FRESH), bytearray(640), lent([0xEE] * 488)
         chips[12 * chip] = 1
@@ -172,8 +180,8 @@ def try_picture(text):
     library, records, ready = Library(), lent([0] * 1016), bytes([1] + [0] * 11) * 2
     library.call("repaint", lent(ready), lent(bytes(243) + b"\x80"), records)
     page, column, *writes = (bytes(records)[4 * (126 + 63):][4 * i:4 * i + 4] for i in range(63))
-    check("the picture's page and column", (page, column) == (b"\2\1\xbb\0", b"\2\1\0\0"), words(page + column))
-    check("the picture's bytes", writes == [b"\3\1\0\0"] * 60 + [b"\3\1\x80\0"], words(b"".join(writes)))
+    check("the picture's page and column", (page, column) == (b"\2\1\xbb\0", b"\2\1\0\0"), hex_of(page + column))
+    check("the picture's bytes", writes == [b"\3\1\0\0"] * 60 + [b"\3\1\x80\0"], hex_of(b"".join(writes)))
     check("the picture is said", "pixel at column 121, row 15 alone is 243 bytes 00 and then 80" in " ".join(text.split()))
 
 
@@ -201,7 +209,7 @@ def main():
             try_paper(path, folder)
     try_pictures(read("README.md"))
     paths, said = known()
-    for path in ["docs/ARCHITECTURE.md", "docs/DECISIONS.md"]:
+    for path in ["docs/ARCHITECTURE.md", "docs/DECISIONS.md", "docs/PROMISES.md"]:
         try_names(path, paths, said)
     try_bytes(read("docs/FORMATS.md"))
     try_picture(read("docs/FORMATS.md"))

@@ -4,9 +4,15 @@
  * and leave the same. And the version that the archive gives is the header's.
  */
 #define PROGRAM "pointers"
-#include "rig.h"
+#include "check.h"
 
-enum { BUFFERS = 4, LONGEST = 2048, OFFSETS = 16, JOBS = 7, RECORDS = 40 };
+enum { BUFFERS = 4, LONGEST = 2048, OFFSETS = 16, RECORDS = 40 };
+
+/* The calls; each is a job. */
+enum { REPLAY, DRAW, REPAINTED, OPEN, PART, CLOSE, LIST, JOBS };
+
+/* The bit of a buffer among those that are chosen. */
+#define BUFFER(i) (1u << (i))
 
 /* Buffers as a call is lent them; those that it has not are of length 0. */
 struct lent {
@@ -14,16 +20,16 @@ struct lent {
     size_t length[BUFFERS];
 };
 
-/* The calls by number. The pointers to const of some come as the others do. */
+/* The pointers to const of some come as the others do. */
 static uint64_t call(unsigned job, uint8_t *const at[BUFFERS], const size_t length[BUFFERS])
 {
     switch (job) {
-    case 0: return pedralume_replay(at[0], length[0], at[1], length[1], at[2], length[2], at[3], length[3]);
-    case 1: return pedralume_frame(at[0], length[0], at[1], length[1], at[2], length[2]);
-    case 2: return pedralume_repaint(at[0], length[0], at[1], length[1], at[2], length[2]);
-    case 3: return pedralume_feed_open(at[0], length[0], at[1], length[1]);
-    case 4: return pedralume_feed_part(at[0], length[0], at[1], length[1], at[2], length[2], at[3], length[3]);
-    case 5: return pedralume_feed_close(at[0], length[0]);
+    case REPLAY: return pedralume_replay(at[0], length[0], at[1], length[1], at[2], length[2], at[3], length[3]);
+    case DRAW: return pedralume_frame(at[0], length[0], at[1], length[1], at[2], length[2]);
+    case REPAINTED: return pedralume_repaint(at[0], length[0], at[1], length[1], at[2], length[2]);
+    case OPEN: return pedralume_feed_open(at[0], length[0], at[1], length[1]);
+    case PART: return pedralume_feed_part(at[0], length[0], at[1], length[1], at[2], length[2], at[3], length[3]);
+    case CLOSE: return pedralume_feed_close(at[0], length[0]);
     default: return pedralume_changes(at[0], length[0], at[1], length[1], at[2], length[2], at[3], length[3]);
     }
 }
@@ -47,12 +53,12 @@ static void lend(struct lent *l, unsigned job, size_t offset)
     memcpy(l->length, lengths[job], sizeof l->length);
     t.len = 0;
     put_valid(&t, &g, ready, RECORDS);
-    memcpy(l->bytes[job == 3 ? 1 : 0] + offset, ready, CHIPS);
-    if (job == 4 || job == 5)
+    memcpy(l->bytes[job == OPEN ? 1 : 0] + offset, ready, CHIPS);
+    if (job == PART || job == CLOSE)
         pedralume_feed_open(l->bytes[0] + offset, FEED, ready, CHIPS);
-    if (job != 3 && job != 5)
+    if (job != OPEN && job != CLOSE)
         random_bytes(&g, l->bytes[1] + offset, l->length[1]);
-    if (job == 0 || job == 4 || job == 6)
+    if (job == REPLAY || job == PART || job == LIST)
         memcpy(l->bytes[2] + offset, t.bytes, t.len);
 }
 
@@ -60,7 +66,7 @@ static uint64_t call_at(unsigned job, struct lent *l, size_t offset, unsigned nu
 {
     uint8_t *at[BUFFERS];
     for (unsigned i = 0; i < BUFFERS; i++)
-        at[i] = null >> i & 1 ? NULL : l->bytes[i] + offset;
+        at[i] = null & BUFFER(i) ? NULL : l->bytes[i] + offset;
     return call(job, at, l->length);
 }
 
@@ -68,10 +74,10 @@ static uint64_t call_at(unsigned job, struct lent *l, size_t offset, unsigned nu
 static void test_null(unsigned job)
 {
     static struct lent plain, null;
-    for (unsigned chosen = 0; chosen < 1u << buffers[job]; chosen++) {
+    for (unsigned chosen = 0; chosen < BUFFER(buffers[job]); chosen++) {
         lend(&plain, job, 0);
         for (unsigned i = 0; i < BUFFERS; i++)
-            if (chosen >> i & 1)
+            if (chosen & BUFFER(i))
                 plain.length[i] = 0;
         null = plain;
         uint64_t want = call_at(job, &plain, 0, 0);
@@ -85,17 +91,17 @@ static void test_null(unsigned job)
 static void test_empty(void)
 {
     static struct lent l;
-    lend(&l, 0, 0);
+    lend(&l, REPLAY, 0);
     l.length[2] = l.length[3] = 0;
-    CHECK_ANSWER(call_at(0, &l, 0, 12), 0, 0, 0, 0);
-    lend(&l, 4, 0);
+    CHECK_ANSWER(call_at(REPLAY, &l, 0, BUFFER(2) | BUFFER(3)), 0, 0, 0, 0);
+    lend(&l, PART, 0);
     l.length[2] = l.length[3] = 0;
-    CHECK_ANSWER(call_at(4, &l, 0, 12), 0, 0, 0, 0);
-    lend(&l, 6, 0);
-    uint64_t listed = call_at(6, &l, 0, 0);
+    CHECK_ANSWER(call_at(PART, &l, 0, BUFFER(2) | BUFFER(3)), 0, 0, 0, 0);
+    lend(&l, LIST, 0);
+    uint64_t listed = call_at(LIST, &l, 0, 0);
     l.length[3] = 0;
     CHECK(pedralume_place(listed) > 0);
-    CHECK_ANSWER(call_at(6, &l, 0, 8), PEDRALUME_SHORT_ENTRIES, pedralume_place(listed), 0, 0);
+    CHECK_ANSWER(call_at(LIST, &l, 0, BUFFER(3)), PEDRALUME_SHORT_ENTRIES, pedralume_place(listed), 0, 0);
 }
 
 /* At each offset from an aligned address. */

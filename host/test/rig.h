@@ -1,13 +1,13 @@
 /*
  * The tests of each call share this: chips and RAM as a replay is lent them, one replay, and the traces that
- * several calls are tried with. All is static inline, as in support.h.
+ * several calls are tried with. All is static, as in support.h.
  */
 #ifndef RIG_H
 #define RIG_H
 
 #include "check.h"
 
-/* Bytes past the longest buffer that a call may take; they must stay too. */
+/* Bytes past the longest buffer that a call may take, which must stay too; and the answers to the longest trace. */
 enum { SLACK = 16, ANSWERS = 2 * RECORDS_MAX };
 
 /* ---- what a replay is lent ---- */
@@ -38,7 +38,7 @@ static inline void fresh_rig(struct rig *r)
     memset(r->ram, 0, RAM);
 }
 
-/* Every field away from its fresh value, every RAM byte unlike its neighbours. */
+/* Every field is away from its fresh value, but the mode and the saved column without rmw; every RAM byte is unlike its neighbours. */
 static inline void busy_rig(struct rig *r, bool rmw)
 {
     static const uint8_t busy[CHIP] = { 1, 1, 0, 1, 1, 2, 9, 33, 7, 1, 0x5C, 0 };
@@ -77,7 +77,7 @@ static inline void put_prelude(struct trace *t)
     put_status(t, 1, 0x61);
 }
 
-/* The prelude, which would change much if it were replayed. */
+/* The prelude alone. */
 static inline const struct trace *prelude(void)
 {
     static struct trace t;

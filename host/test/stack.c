@@ -24,12 +24,14 @@ static void feed_open(void) { pedralume_feed_open(feed, FEED, chips, CHIPS); }
 static void feed_first(void) { pedralume_feed_part(feed, FEED, ram, RAM, trace.bytes, 5, answers, sizeof answers); }
 static void feed_rest(void) { pedralume_feed_part(feed, FEED, ram, RAM, trace.bytes + 5, trace.len - 5, answers, sizeof answers); }
 static void feed_close(void) { pedralume_feed_close(feed, FEED); }
+static void version(void) { pedralume_version(); }
 static void changes(void) { pedralume_changes(chips, CHIPS, ram, RAM, trace.bytes, trace.len, entries, sizeof entries); }
 
 /* In this order: the replay moves chips and RAM on, so it is the last. The first shows what the measuring takes. */
 static const struct { const char *name; void (*run)(void); } calls[] = {
     { "(no call)", nothing }, { "frame", show }, { "repaint", repaint }, { "changes", changes }, { "feed_open", feed_open },
-    { "feed_part, the first", feed_first }, { "feed_part, another", feed_rest }, { "feed_close", feed_close }, { "replay", replay },
+    { "feed_part, the first", feed_first }, { "feed_part, another", feed_rest }, { "feed_close", feed_close },
+    { "version", version }, { "replay", replay },
 };
 enum { COUNT = sizeof calls / sizeof calls[0] };
 

@@ -20,14 +20,14 @@ const STATUS: u8 = 4;
 
 const READ: u8 = 5;
 
-const BOTH_STROBES: u8 = 0;
+const STROBES: u8 = 0;
 
 const NO_STROBE: u8 = 6;
 
-// Set with the others it is a line that the bus does not have.
-const SPARE_LINE: u8 = 8;
+// A bit that is no control line, added to one of the others.
+const SPARE: u8 = 8;
 
-// The chip that is fresh here, and one that is not there.
+// The chip that every sequence is sent to, and one that is not there.
 const LEFT: u8 = 0;
 
 const NO_CHIP: u8 = 2;
@@ -52,6 +52,9 @@ const MODIFY_ON: u8 = 0xE0;
 const RESET: u8 = 0xE2;
 
 const MODIFY_OFF: u8 = 0xEE;
+
+// The first column that RAM does not have.
+const STOP: u8 = Chip::COLUMN_STOP;
 
 // Numbers.
 const DONE: u8 = 0;
@@ -182,7 +185,7 @@ const MISSING_COLUMN: [[u8; CASE]; 25] = [
     [WRITE, LEFT, 0x22, 0, DONE, NONE, 0],
     [COMMAND, LEFT, COLUMN + 10, 0, DONE, NONE, 0],
     [READ, LEFT, 0, 0, DONE, STALE, 0x00],
-    [COMMAND, LEFT, COLUMN + Chip::COLUMN_STOP, 0, NO_SUCH_COLUMN, NONE, 0],
+    [COMMAND, LEFT, COLUMN + STOP, 0, NO_SUCH_COLUMN, NONE, 0],
     [READ, LEFT, 0, 0, DONE, FRESH, 0x11],
     [COMMAND, LEFT, COLUMN + 127, 0, NO_SUCH_COLUMN, NONE, 0],
     [READ, LEFT, 0, 0, DONE, FRESH, 0x22],
@@ -252,25 +255,17 @@ const REFUSALS: [[u8; CASE]; 20] = [
     [COMMAND, LEFT, 0xAC, 0, NO_COMMAND, NONE, 0],
     [COMMAND, LEFT, 0xBC, 0, NO_COMMAND, NONE, 0],
     [COMMAND, LEFT, 0xE3, 0, NO_COMMAND, NONE, 0],
-    [BOTH_STROBES, LEFT, 0, 0, EQUAL_STROBES, NONE, 0],
+    [STROBES, LEFT, 0, 0, EQUAL_STROBES, NONE, 0],
     [NO_STROBE, LEFT, 0, 0, EQUAL_STROBES, NONE, 0],
     [WRITE, NO_CHIP, 0x09, 0, NO_SUCH_CHIP, NONE, 0],
-    [
-        SPARE_LINE + BOTH_STROBES,
-        NO_CHIP,
-        0,
-        0,
-        SPARE_BITS,
-        NONE,
-        0,
-    ],
+    [SPARE + STROBES, NO_CHIP, 0, 0, SPARE_BITS, NONE, 0],
     [WRITE, LEFT, 0x09, 1, SPARE_BITS, NONE, 0],
     [WRITE, LEFT, 0x99, 0, DONE, NONE, 0],
     [COMMAND, LEFT, MODIFY_OFF, 0, DONE, NONE, 0],
     [READ, LEFT, 0, 0, DONE, STALE, 0x00],
     [READ, LEFT, 0, 0, DONE, FRESH, 0x99],
     [COMMAND, LEFT, 0xBC, 0, NO_COMMAND, NONE, 0],
-    [SPARE_LINE + WRITE, LEFT, 0x55, 0, SPARE_BITS, NONE, 0],
+    [SPARE + WRITE, LEFT, 0x55, 0, SPARE_BITS, NONE, 0],
     [WRITE, LEFT, 0x55, 1, SPARE_BITS, NONE, 0],
     [READ, LEFT, 0, 0, DONE, FRESH, 0x00],
 ];
