@@ -1,5 +1,5 @@
 -- Lists joined one after the other: one more at the end, and where a place of one lies where all have one width.
-use Prim.Native.Nat.{ℕ, zero, suc, _+_, _*_, _<_}
+use Prim.Native.Nat.{ℕ, zero, suc, _+_, _*_, _<_, _≤_}
 use native.Mathlib.Omega.{arith}
 use native.Mathlib.Numerals.{add-one}
 use mathlib.Core.Path.{_≡_, refl, _∙_}
@@ -18,6 +18,13 @@ module _ {A : Type 0} (f : ℕ → List A) where
   -- from 0 on, as a loop counts
   pub joined-next : (n : ℕ) → joined f 0 (n + 1) ≡ joined f 0 n ++ f n
   joined-next n = let e : 0 + n ≡ n = omega arith in rw (add-one n, joined-more 0 n, e)
+
+  pub joined-bound : (most : ℕ) → ((i : ℕ) → length (f i) ≤ most) → (at n : ℕ) → length (joined f at n) ≤ most * n
+  unfolding joined
+  joined-bound most short at zero = omega arith
+  joined-bound most short at (suc n) =
+      let e : most * suc n ≡ most + most * n = omega arith in
+      omega (arith, length-append (f at) (joined f (at + 1) n), short at, joined-bound most short (at + 1) n)
 
   module _ (width : ℕ) (wide : (i : ℕ) → length (f i) ≡ width) where
     pub joined-length : (at n : ℕ) → length (joined f at n) ≡ width * n

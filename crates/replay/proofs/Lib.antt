@@ -1,3 +1,2 @@
-pub mod Digits
 pub mod Lines
 pub mod Listed

@@ -1,40 +1,33 @@
--- The replay on fresh chips over RAM all 0, its answers within the buffers, and its text.
-use Prim.Native.Nat.{ℕ, _*_, _/_, _≤_}
+-- The replay on fresh chips over RAM all 0: its answers within the answer buffer, and its text, which is at most 737,368 bytes long.
+use Prim.Native.Nat.{ℕ, _+_, _*_, _/_, _≤_}
 use native.Mathlib.Omega.{arith}
-use mathlib.Core.Path.{_≡_, refl, ap, _∙_}
-use mathlib.Core.Bool.{Bool, _&&_}
+use mathlib.Core.Path.{_≡_, refl, ap}
+use mathlib.Core.Bool.{Bool}
 use mathlib.Core.List.{List}
-use lib.Dec.{leb}
-use lib.ListN.{length, replicate, length-replicate}
-use borrow.Author.Tests.{le-leb, lt-leb}
+use lib.ListN.{length, replicate, length-append, length-replicate}
 use Rattle.basics.proofs.Table.{EachLine, each-line, of-first}
 use Rattle.basics.proofs.Tests.{when}
 use Rattle.sed1520.specs.Chip.{fresh}
+use Rattle.sed1520.specs.Replies.{inPlace}
 use Rattle.sed1520.specs.declared.registers.Chip.{Chip}
-use Rattle.panel.specs.Panel.{Panel, asPanel}
+use Rattle.sed1520.specs.declared.tally.Tally.{Tally}
+use Rattle.panel.specs.Chips.{chipsBytes}
+use Rattle.panel.specs.Panel.{imageLength, Panel}
 use Rattle.panel.specs.Trace.{traceRun}
-use Rattle.trace.specs.Replay.{ReplayOutcome, replayOutcome, refusedAt, ended, endedBytes, replayTable, replayOf}
-use Rattle.trace.specs.declared.Replayed.{Replayed}
+use Rattle.trace.specs.Replay.{ReplayOutcome, refusedAt, ended, endedBytes, replayTable, replayOf, replayInPlace}
 use Rattle.trace.proofs.AfterEach.{replies-bound}
 use Rattle.trace.proofs.Bounds.{replay-bounded}
+use Rattle.trace.proofs.InPlace.{by-value}
 use Rattle.trace.proofs.ReplayNumbers.{table, sizes-right}
-use Rattle.replay.specs.Text.{answerLines, endLine, answersGiven, replayText, programText, start, Put}
-use Rattle.replay.proofs.Digits.{put-more}
-
-pub cleared-length : (l : List ℕ) (n : ℕ) → l ≡ replicate n 0 → length l ≡ n
-cleared-length l n e = rw e (length-replicate n 0)
-
-pub given-all : (n at : ℕ) → n ≡ 0 → at ≡ answersGiven n at
-given-all n at e = rw e
-
-pub given-none : (n at : ℕ) → 1 ≤ n → n ≤ 3 → 0 ≡ answersGiven n at
-given-none n at l h = rw (le-leb 1 n l, le-leb n 3 h)
-
-pub given-records : (n at : ℕ) → 1 ≤ n → 4 ≤ n → at ≡ answersGiven n at
-given-records n at l h = rw (le-leb 1 n l, lt-leb n 3 h)
+use Rattle.console.specs.Start.{start, answersLength, blankAnswers}
+use Rattle.console.specs.Text.{refusedBefore, endLine, Put}
+use Rattle.console.proofs.Digits.{end-bound}
+use Rattle.console.proofs.Puts.{put-more}
+use Rattle.replay.specs.Text.{answerLines, answersGiven, replayText, programText}
+use Rattle.replay.proofs.Lines.{lines-bound}
 
 given-bound : (n at : ℕ) → answersGiven n at ≤ at
-given-bound n at = when (λ (k : ℕ). k ≤ at) (leb 1 n && leb n 3) (λ _. omega arith) (λ _. omega arith)
+given-bound n at = when (λ (k : ℕ). k ≤ at) (refusedBefore n) (λ _. omega arith) (λ _. omega arith)
 
 -- numbers 1 to 3 give no answers
 none-given : (left right : Bool) (trace ram answers : ℕ) → EachLine (λ n at. answersGiven n at ≡ 0) (replayTable left right trace ram answers)
@@ -57,30 +50,46 @@ given-space p trace answers =
     let few = given-bound (run .number) (length (run .answers)) in
     omega (arith, few, replies-bound p trace, right .space))
 
--- a replay on fresh chips over RAM all 0, into an answer buffer all 0
-pub record FromFresh (trace answers ram′ answers′ : List ℕ) (done : Replayed) : Type 0 where
-  pub cleared : answers ≡ replicate 32768 0
-  pub ends : replayOutcome done ram′ answers′ ≡ replayOf start trace answers
+-- the text has at most 16,384 lines and the end line
+pub text-bound : (trace : List ℕ) → length (programText trace) ≤ 737368
+unfolding programText replayText
+text-bound trace =
+    let o = replayOf start trace blankAnswers in
+    let a = o .answer in
+    let given = answersGiven (a .number) (a .place) in
+    let lines = answerLines (o .lent .answers) given in
+    let few = given-bound (a .number) (a .place) in
+    omega (
+      arith,
+      few,
+      replay-bounded start trace blankAnswers .place-few,
+      lines-bound (o .lent .answers) given,
+      length-append lines (endLine (a .number) (a .place) (a .compared) (a .differing)),
+      end-bound (a .number) (a .place) (a .compared) (a .differing),
+    )
 
-pub from-fresh : {trace answers image ram′ answers′ : List ℕ} {left right : Chip} {done : Replayed}
-    → left ≡ fresh → right ≡ fresh → image ≡ replicate 640 0 → answers ≡ replicate 32768 0
-    → replayOutcome done ram′ answers′ ≡ replayOf (asPanel left right image) trace answers
-    → FromFresh trace answers ram′ answers′ done
-from-fresh is-left is-right blank cleared ends = record { cleared = cleared; ends = ends ∙ rw (is-left, is-right, blank) }
+-- a replay over the bytes of fresh chips and RAM all 0, into an answer buffer all 0
+pub record FromFresh (trace answers′ : List ℕ) (done : Tally) : Type 0 where
+  pub tally : done ≡ replayOf start trace blankAnswers .answer
+  pub answers : answers′ ≡ replayOf start trace blankAnswers .lent .answers
 
-module _ {trace answers ram′ answers′ : List ℕ} {done : Replayed} (ran : FromFresh trace answers ram′ answers′ done) where
-  -- the answers given fit the text, which has 16,384 lines, and the answer buffer
-  pub given-fits : (answersGiven (done .number) (done .place) ≤ 16384) × (2 * answersGiven (done .number) (done .place) ≤ length answers)
-  given-fits =
-      let number = ap (λ (o : ReplayOutcome). o .answer .number) (ran .ends) in
-      let place = ap (λ (o : ReplayOutcome). o .answer .place) (ran .ends) in
-      let o = replayOf start trace answers .answer in
-      let few = given-bound (o .number) (o .place) in
-      rw (number, place) (omega (arith, few, replay-bounded start trace answers .place-few), given-space start trace answers)
+pub from-fresh : {trace chips chips′ ram′ answers′ : List ℕ} {left right : Chip} {done : Tally}
+    → left ≡ fresh → right ≡ fresh → chips ≡ chipsBytes left right
+    → inPlace done chips′ ram′ answers′ ≡ replayInPlace chips (replicate imageLength 0) trace blankAnswers
+    → FromFresh trace answers′ done
+from-fresh {trace} {chips} {chips′} {ram′} {answers′} {left} {right} {done} is-left is-right bytes ends =
+    let whole = by-value left right chips (replicate imageLength 0) trace blankAnswers (inPlace done chips′ ram′ answers′) bytes ends in
+    let same = rw (is-left, is-right) at whole in
+    record { tally = ap (λ (o : ReplayOutcome). o .answer) same; answers = ap (λ (o : ReplayOutcome). o .lent .answers) same }
+
+module _ {trace answers′ : List ℕ} {done : Tally} (ran : FromFresh trace answers′ done) where
+  -- the answers given fit the answer buffer
+  pub given-fits : 2 * answersGiven (done .number) (done .place) ≤ answersLength
+  given-fits = rw (ran .tally) (omega (arith, given-space start trace blankAnswers, length-replicate {A = ℕ} answersLength 0))
 
   pub listed : {out mid end : List ℕ} {at next given : ℕ} → given ≡ answersGiven (done .number) (done .place)
       → Put out mid 0 at (answerLines answers′ given)
       → Put mid end at next (endLine (done .number) (done .place) (done .compared) (done .differing))
       → Put out end 0 next (programText trace)
   unfolding programText replayText
-  listed e lines last = rw (← ran .cleared, ← ran .ends) (put-more (rw e at lines) last)
+  listed e lines last = rw (← ran .answers, ← ran .tally) (put-more (rw e at lines) last)

@@ -1,21 +1,14 @@
--- `replay::given_in` meets its contract.
-use native.Mathlib.Omega.{arith}
-use Rattle.replay.proofs.Listed.{given-all, given-none, given-records}
+-- `replay::given_in` meets its contract: none where the number refuses before the first record, else one for each record taken.
+use mathlib.Core.Path.{sym, _∙_}
+use borrow.Author.Needs.{needs}
 use Rattle.replay.proofs.given_in.Statement.{statement}
 use Rattle.replay.proofs.given_in.Tie as tie
 
 returns : tie.Need-returns
-returns c = given-all (c .before .args .number) (c .before .args .place) (omega arith)
+returns c = rw (sym (c .before .refused-before .ensures) ∙ c .if1 .taken)
 
 returns-2 : tie.Need-returns-2
-returns-2 c =
-    let at = c .before .before .args in
-    given-none (at .number) (at .place) (omega arith) (omega arith)
-
-returns-3 : tie.Need-returns-3
-returns-3 c =
-    let at = c .before .before .args in
-    given-records (at .number) (at .place) (omega arith) (omega arith)
+returns-2 c = rw (sym (c .before .refused-before .ensures) ∙ c .if1 .left)
 
 pub given-in-spec : {M : Type 1} → statement M
-given-in-spec = tie.close (tie.spec returns returns-2 returns-3)
+given-in-spec = tie.close (tie.spec (λ c κs. search needs) returns returns-2)

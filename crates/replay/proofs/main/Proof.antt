@@ -3,7 +3,6 @@ use native.Mathlib.Omega.{arith}
 use mathlib.Core.Path.{sym}
 use lib.Seq.{length-take-le}
 use borrow.Author.Needs.{needs}
-use Rattle.replay.proofs.Listed.{cleared-length}
 use Rattle.replay.proofs.main.Statement.{statement}
 use Rattle.replay.proofs.main.Tie as tie
 
@@ -19,15 +18,12 @@ slice-aggregate-listing c =
 
 slice-aggregate-write-all : tie.Need-slice-aggregate-write-all
 slice-aggregate-write-all c =
-    let listed = c .before .before in
-    let size = cleared-length _ 737368 (listed .before .before .before .text-buffer .ensures) in
-    sym (length-take-le _ _ (omega (arith, listed .listing .ensures .1, listed .listing .kept .1 .0, size)))
+    sym (length-take-le _ _ (search needs))
 
 pub main-spec : {M : Type 1} → statement M
 main-spec =
     tie.close
     (tie.spec
-    (λ c κs. search needs)
     (λ c. search needs)
     (λ c κs. search needs)
     (λ c. search needs)

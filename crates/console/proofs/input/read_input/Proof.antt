@@ -1,10 +1,10 @@
--- `replay::read_input` meets its contract: what was read so far lies within the buffer.
+-- `console::input::read_input` meets its contract: what was read so far lies within the buffer.
 use Prim.Native.Nat.{_-_, _≤_}
 use mathlib.Core.Path.{_≡_}
 use lib.ListN.{length}
 use borrow.Author.Needs.{needs}
-use Rattle.replay.proofs.read_input.Statement.{statement}
-use Rattle.replay.proofs.read_input.Tie as tie
+use Rattle.console.proofs.input.read_input.Statement.{statement}
+use Rattle.console.proofs.input.read_input.Tie as tie
 
 abbrev Inv-loop : tie.InvT-loop
 Inv-loop buffer₀ done₀ buffer done = (length buffer ≡ length buffer₀) × (done ≤ length buffer)

@@ -1,0 +1,3 @@
+pub mod Input
+pub mod Start
+pub mod Text
