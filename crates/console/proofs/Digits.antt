@@ -1,13 +1,13 @@
 -- The digits of a number, and the lengths of what is made of them.
 use Prim.Native.Nat.{ℕ, zero, suc, _+_, _-_, _/_, _%_, _<_, _≤_}
 use native.Mathlib.Omega.{arith}
-use mathlib.Core.Path.{_≡_, refl}
+use mathlib.Core.Path.{_≡_}
 use mathlib.Core.List.{List, [], _∷_, _++_}
 use lib.Dec.{ltb}
 use lib.ListN.{length, length-append}
 use borrow.Author.Tests.{lt-ltb, le-ltb}
 use Rattle.basics.proofs.Tests.{when}
-use Rattle.console.specs.Text.{decimal, decimalDigits, nextNumber, endLine}
+use Rattle.console.specs.Text.{decimal, decimalDigits, endLine}
 
 -- at most so many digits
 digits-bound : (most n : ℕ) → length (decimal most n) ≤ most

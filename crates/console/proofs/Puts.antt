@@ -1,11 +1,11 @@
 -- Bytes put one after the other into a buffer, as many as there is room for.
-use Prim.Native.Nat.{ℕ, suc, _+_, _-_, _≤_, _<_, min}
+use Prim.Native.Nat.{ℕ, suc, _+_, _≤_}
 use native.Mathlib.Omega.{arith}
 use mathlib.Core.Path.{_≡_, refl, sym, _∙_}
 use mathlib.Core.Logic.{⊎-elim}
 use mathlib.Core.List.{List, [], _∷_, _++_}
 use lib.Dec.{leb}
-use lib.ListN.{length, set, length-append, length-set}
+use lib.ListN.{length, set, length-append}
 use lib.Seq.{sets, set-out, length-sets}
 use borrow.Author.Tests.{leb-true, leb-false}
 use Rattle.basics.specs.Lists.{joined}
@@ -31,9 +31,6 @@ none-more xs ys l at i h = sets-past ys (sets l at xs) i (omega (arith, length-s
 
 pub put-none : (l : List ℕ) (at : ℕ) → Put l l at at []
 put-none l at = record { text = refl; next-place = omega arith }
-
-pub put-one : (l : List ℕ) (at b : ℕ) → at < length l → Put l (set l at b) at (at + 1) (b ∷ [])
-put-one l at b h = record { text = refl; next-place = omega arith }
 
 pub no-room : (l : List ℕ) (at b : ℕ) → length l ≤ at → Put l l at at (b ∷ [])
 no-room l at b h = record { text = sym (set-out l at b h); next-place = omega arith }

@@ -1,5 +1,5 @@
 -- The replay on fresh chips over RAM all 0: its answers within the answer buffer, and its text, which is at most 737,368 bytes long.
-use Prim.Native.Nat.{ℕ, _+_, _*_, _/_, _≤_}
+use Prim.Native.Nat.{ℕ, _*_, _/_, _≤_}
 use native.Mathlib.Omega.{arith}
 use mathlib.Core.Path.{_≡_, refl, ap}
 use mathlib.Core.Bool.{Bool}

@@ -1,7 +1,5 @@
 -- `replay::listing` meets its contract: the lines of the answers given, then the end line, all of which the buffer has room for.
-use Prim.Native.Nat.{ℕ}
 use native.Mathlib.Omega.{arith}
-use mathlib.Core.List.{List}
 use borrow.Author.Needs.{needs}
 use Rattle.console.proofs.Puts.{put-whole}
 use Rattle.replay.proofs.Listed.{FromFresh, from-fresh, given-fits, listed, text-bound}

@@ -1,5 +1,4 @@
 -- `replay::main` meets its contract: what was read lies within the trace buffer, and the listing within its own.
-use native.Mathlib.Omega.{arith}
 use mathlib.Core.Path.{sym}
 use lib.Seq.{length-take-le}
 use borrow.Author.Needs.{needs}

@@ -1,6 +1,6 @@
 -- `console::text::put_byte` meets its contract: a byte is put where there is room, else none.
 use borrow.Author.Needs.{needs}
-use Rattle.console.proofs.Puts.{no-room, put-one}
+use Rattle.console.proofs.Puts.{no-room}
 use Rattle.console.proofs.text.put_byte.Statement.{statement}
 use Rattle.console.proofs.text.put_byte.Tie as tie
 
