@@ -1,12 +1,17 @@
--- Sums over the numbers below a bound.
+-- Sums over the numbers below a bound, the sum of a list, and numbers from one on and below another.
 use Prim.Native.Nat.{ℕ, zero, suc, _+_, _*_, _<_, _≤_}
 use native.Mathlib.Omega.{arith}
 use native.Mathlib.Numerals.{add-one}
-use mathlib.Core.Path.{_≡_, refl}
+use mathlib.Core.Path.{_≡_, refl, ap, _∙_}
 use mathlib.Core.Logic.{⊎-elim}
-use lib.Dec.{eqb}
-use borrow.Author.Tests.{eqb-true, eqb-false}
-use Rattle.basics.specs.Counts.{sumBelow}
+use mathlib.Core.Bool.{false}
+use mathlib.Core.List.{List, [], _∷_, _++_}
+use lib.Dec.{leb, eqb}
+use borrow.Author.Tests.{eqb-true, eqb-false, leb-true, leb-false, lt-ltb, le-ltb, le-leb, lt-leb}
+use Rattle.basics.specs.Choice.{if}
+use Rattle.basics.specs.Counts.{sumBelow, total, liesIn}
+use Rattle.basics.specs.Lists.{joined, tabulated}
+use Rattle.basics.proofs.Lists.{joined-more}
 use Rattle.basics.proofs.Tests.{tested}
 
 module _ (f : ℕ → ℕ) where
@@ -58,3 +63,51 @@ sum-one f k (suc n) l h =
     (λ t. let d = eqb-false k n t in
     rw (h n (omega arith) (λ e. d (omega arith)), sum-one f k n (omega arith) (λ i below. h i (omega arith))) (omega arith))
     (tested (eqb k n))
+
+-- two functions added
+pub sum-plus : (f g : ℕ → ℕ) (n : ℕ) → sumBelow (λ i. f i + g i) n ≡ sumBelow f n + sumBelow g n
+unfolding sumBelow
+sum-plus f g zero = refl
+sum-plus f g (suc n) = rw (sum-plus f g n) (omega arith)
+
+-- the sum of a list, and of the values that a function gives
+pub total-append : (xs ys : List ℕ) → total (xs ++ ys) ≡ total xs + total ys
+unfolding total
+total-append [] ys = omega arith
+total-append (x ∷ xs) ys = rw (total-append xs ys) (omega arith)
+
+pub total-tabulated : (f : ℕ → ℕ) (n : ℕ) → total (tabulated f 0 n) ≡ sumBelow f n
+unfolding total sumBelow joined
+total-tabulated f zero = refl
+total-tabulated f (suc n) =
+    let here : 0 + n ≡ n = omega arith in
+    ap total (joined-more (λ i. f i ∷ []) 0 n)
+    ∙ total-append (tabulated f 0 n) (f (0 + n) ∷ [])
+    ∙ rw (total-tabulated f n, here) (omega arith)
+
+-- no number lies from a number on and below it; and one more number at the front
+pub lies-in-none : (n i : ℕ) → liesIn n n i ≡ false
+lies-in-none n i = ⊎-elim (λ t. rw t (le-ltb i n (leb-true n i t))) (λ t. rw t) (tested (leb n i))
+
+pub lies-first : (from to i : ℕ) → from + 1 ≤ to → _≡_ {A = ℕ} (if (eqb i from) 1 0 + if (liesIn (from + 1) to i) 1 0) (if (liesIn from to i) 1 0)
+lies-first from to i more =
+    ⊎-elim
+    (λ t. let e = eqb-true i from t in
+    rw (t, lt-leb (from + 1) i (omega arith), le-leb from i (omega arith), lt-ltb i to (omega arith)) (omega arith))
+    (λ t. ⊎-elim
+    (λ s. let l = leb-true (from + 1) i s in rw (t, s, le-leb from i (omega arith)) (omega arith))
+    (λ s. let l = leb-false (from + 1) i s in let d = eqb-false i from t in rw (t, s, lt-leb from i (omega arith)) (omega arith))
+    (tested (leb (from + 1) i)))
+    (tested (eqb i from))
+
+-- one more at the end
+pub lies-last : (from to i : ℕ) → from ≤ to → _≡_ {A = ℕ} (if (liesIn from (to + 1) i) 1 0) (if (liesIn from to i) 1 0 + if (eqb i to) 1 0)
+lies-last from to i on =
+    ⊎-elim
+    (λ t. let e = eqb-true i to t in rw (t, le-leb from i (omega arith), lt-ltb i (to + 1) (omega arith), le-ltb i to (omega arith)) (omega arith))
+    (λ t. let d = eqb-false i to t in
+    ⊎-elim
+    (λ s. let l = leb-true to i s in rw (t, le-ltb i to (omega arith), le-ltb i (to + 1) (omega arith)) (omega arith))
+    (λ s. let l = leb-false to i s in rw (t, lt-ltb i to (omega arith), lt-ltb i (to + 1) (omega arith)) (omega arith))
+    (tested (leb to i)))
+    (tested (eqb i to))

@@ -1,13 +1,13 @@
 -- Two parts of n bytes, one after the other: a part as a slice lends it, and put back as a slice takes it back.
-use Prim.Native.Nat.{ℕ, _+_, _-_, _≤_}
+use Prim.Native.Nat.{ℕ, _+_, _-_, _<_, _≤_}
 use native.Mathlib.Omega.{arith}
 use mathlib.Core.Path.{_≡_, refl, _∙_}
 use mathlib.Core.Bool.{Bool, true, false}
 use mathlib.Core.List.{List, [], _++_, append-nil}
 use mathlib.Core.Logic.{⊎-elim}
 use lib.Dec.{eqb}
-use lib.ListN.{length, take, drop, length-append, length-drop, take-append-drop, drop-of-length-le}
-use lib.Seq.{take-all, take-at, drop-at, length-take-le}
+use lib.ListN.{length, getD, take, drop, set, length-append, length-drop, take-append-drop, drop-of-length-le}
+use lib.Seq.{take-all, take-at, drop-at, length-take-le, take-set-lt, take-set-le, drop-set-lt, drop-set-add, getD-take, getD-drop}
 use Rattle.basics.specs.Choice.{if}
 use Rattle.basics.specs.Halves.{partStart, partAt, partPut}
 use Rattle.basics.proofs.Tests.{tested, when}
@@ -115,3 +115,23 @@ module _ (n k : ℕ) (bytes : List ℕ) (two : length bytes ≡ n + n) where
             if t (other ++ drop n put) (take n put ++ other) ≡ if t (other ++ drop n bytes) (take n bytes ++ other)
         at true = rw (drop-at part (drop n bytes) n whole)
         at false = rw (take-at (take n bytes) part n front-length)
+
+-- a byte set in a part is set in the whole
+pub put-set : (n k : ℕ) (bytes : List ℕ) (at b : ℕ) → at < n → partPut n k bytes (set (partAt n k bytes) at b) ≡ set bytes (partStart n k + at) b
+put-set n k bytes at b within = side (eqb k 0)
+  where
+    side : (t : Bool) → let part = set (if t (take n bytes) (drop n bytes)) at b in
+        if t (part ++ drop n bytes) (take n bytes ++ part) ≡ set bytes (if t 0 n + at) b
+    side true =
+        let e : 0 + at ≡ at = omega arith in
+        rw (e, ← take-set-lt n bytes at b within, ← drop-set-lt n bytes at b within) (take-append-drop n (set bytes at b))
+    side false =
+        rw (← take-set-le n bytes (n + at) b (omega arith), ← drop-set-add n bytes at b) (take-append-drop n (set bytes (n + at) b))
+
+-- a byte of a part is one of the whole
+pub part-byte : (n k : ℕ) (bytes : List ℕ) (i : ℕ) → i < n → getD (partAt n k bytes) i 0 ≡ getD bytes (partStart n k + i) 0
+part-byte n k bytes i within = side (eqb k 0)
+  where
+    side : (t : Bool) → getD (if t (take n bytes) (drop n bytes)) i 0 ≡ getD bytes (if t 0 n + i) 0
+    side true = let e : 0 + i ≡ i = omega arith in rw e (getD-take n bytes i 0 within)
+    side false = getD-drop n bytes i 0

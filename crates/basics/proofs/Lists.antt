@@ -2,11 +2,11 @@
 use Prim.Native.Nat.{ℕ, zero, suc, _+_, _*_, _<_, _≤_}
 use native.Mathlib.Omega.{arith}
 use native.Mathlib.Numerals.{add-one}
-use mathlib.Core.Path.{_≡_, refl, _∙_}
+use mathlib.Core.Path.{_≡_, refl, sym, _∙_}
 use mathlib.Core.List.{List, [], _∷_, _++_, append-assoc, append-nil}
 use mathlib.Core.List.{flatMap}
 use lib.ListN.{length, getD, length-append, List·getD-append}
-use lib.Seq.{getD-append-add}
+use lib.Seq.{getD-append-add, ext-getD}
 use Rattle.basics.specs.Lists.{joined, tabulated}
 
 module _ {A : Type 0} (f : ℕ → List A) where
@@ -55,6 +55,18 @@ module _ {A : Type 0} (f : ℕ → A) where
   tabulated-at at n i d h =
       let e : 0 + 1 * i ≡ i = omega arith in
       rw e at (joined-at (λ i. f i ∷ []) 1 (λ i. refl) at n i 0 d h (omega arith))
+
+  -- a list whose values are those that the function gives
+  pub tabulated-is : (d : A) (n : ℕ) (l : List A) → length l ≡ n → ((i : ℕ) → i < n → getD l i d ≡ f i) → l ≡ tabulated f 0 n
+  tabulated-is d n l size same =
+      ext-getD d l (tabulated f 0 n) (size ∙ sym (tabulated-length 0 n))
+      (λ i h. let e : 0 + i ≡ i = omega arith in same i (omega arith) ∙ sym (rw e at (tabulated-at 0 n i d (omega arith))))
+
+-- two functions that give the same
+pub tabulated-same : {A : Type 0} (f g : ℕ → A) → ((i : ℕ) → f i ≡ g i) → (at n : ℕ) → tabulated f at n ≡ tabulated g at n
+unfolding joined
+tabulated-same f g same at zero = refl
+tabulated-same f g same at (suc n) = rw (same at, tabulated-same f g same (at + 1) n)
 
 -- lists put in place of elements: joined, and their length where all have one width
 module _ {A B : Type 0} (f : A → List B) where

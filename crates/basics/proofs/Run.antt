@@ -14,7 +14,7 @@ use Rattle.basics.specs.Run.{Step, Run, asRun, answeredFirst, runOf}
 use Rattle.basics.proofs.Tests.{tested}
 
 module _ {S R A : Type 0} (step : S → R → Step S A) where
-  run-none : (s : S) → runOf step s [] ≡ asRun 0 [] s
+  pub run-none : (s : S) → runOf step s [] ≡ asRun 0 [] s
   unfolding runOf
   run-none s = refl
 

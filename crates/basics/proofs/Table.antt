@@ -8,7 +8,7 @@ use Rattle.basics.specs.Choice.{if}
 use Rattle.basics.specs.Table.{Cause, unlessRefused, verdictBy, First, NoneHolds, ExactlyWhen}
 use Rattle.basics.specs.Verdict.{verdict, Result, result}
 use Rattle.basics.specs.declared.verdict.Verdict.{Verdict}
-use Rattle.basics.proofs.Tests.{tested, when, when-both}
+use Rattle.basics.proofs.Tests.{tested, when, when-both, choice-both}
 
 module _ {A : Type 0} (refuse : ℕ → ℕ → A) (done : A) where
   pub first-refuses : (table : List Cause) (n at : ℕ) → First table n at → unlessRefused table refuse done ≡ refuse n at
@@ -50,6 +50,17 @@ pub table-as : {A B : Type 0} (f : A → B) (table : List Cause) {refuse : ℕ �
 table-as f [] each last = last
 table-as f (c ∷ cs) each last =
     when-both (λ x y. f x ≡ y) (c .holds) (c .holds) refl (λ _. each (c .number) (c .place)) (λ _. table-as f cs each last)
+
+-- two answers by one table, as one
+pub table-both : {A B C : Type 0} (pair : A → B → C) (table : List Cause) (refuse : ℕ → ℕ → A) (done : A) (refused : ℕ → ℕ → B) (did : B)
+    → unlessRefused table (λ n at. pair (refuse n at) (refused n at)) (pair done did)
+    ≡ pair (unlessRefused table refuse done) (unlessRefused table refused did)
+table-both pair [] refuse done refused did = refl
+table-both pair (c ∷ cs) refuse done refused did =
+    let n = c .number in
+    let at = c .place in
+    ap (if (c .holds) (pair (refuse n at) (refused n at))) (table-both pair cs refuse done refused did)
+    ∙ choice-both pair (c .holds) (refuse n at) _ (refused n at) _
 
 pub exactly-when : (table : List Cause) (done : Verdict) → ExactlyWhen table done (verdictBy table done)
 exactly-when table done =

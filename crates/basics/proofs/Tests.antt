@@ -45,6 +45,10 @@ pub choice-of : {A B : Type 0} (f : A → B) (t : Bool) (a b : A) → if t (f a)
 choice-of f true a b = refl
 choice-of f false a b = refl
 
+pub choice-both : {A B C : Type 0} (f : A → B → C) (t : Bool) (a b : A) (c d : B) → if t (f a c) (f b d) ≡ f (if t a b) (if t c d)
+choice-both f true a b c d = refl
+choice-both f false a b c d = refl
+
 -- two values of which one was replaced: the one that was, and the other
 pub own-choice : {A : Type 0} (t : Bool) (new left right : A) → if t (if t new left) (if t right new) ≡ new
 own-choice true new left right = refl

@@ -11,12 +11,12 @@ use Rattle.basics.specs.Run.{Step}
 use Rattle.basics.proofs.Run.{AlikeSteps, run-alike}
 use Rattle.basics.proofs.Tests.{when, choice-of}
 use Rattle.sed1520.specs.Chip.{staled, withLatch}
-use Rattle.sed1520.specs.Cycle.{Reply, Outcome}
+use Rattle.sed1520.specs.Cycle.{Reply, replyOf, Outcome}
 use Rattle.sed1520.specs.LatchPromises.{unmarkedReply, setsPageOrWrites}
 use Rattle.sed1520.specs.declared.registers.Chip.{Chip}
 use Rattle.sed1520.specs.declared.registers.ReadLatch.the-variants.{Stale}
 use Rattle.sed1520.specs.declared.bus.Record.{Record}
-use Rattle.sed1520.proofs.Unmarked.{asReply, unmarkedOutcome, Same, SameChips, cycle-same, write-kept, a-write}
+use Rattle.sed1520.proofs.Unmarked.{unmarkedOutcome, Same, SameChips, cycle-same, write-kept, a-write}
 use Rattle.panel.specs.LatchPromises.{unmarked, MarksAlone, formerStep, BytesStay}
 use Rattle.panel.specs.Panel.{Panel, asPanel, put, chipAt, ramAt, outcomeOf, stepped, panelStep}
 
@@ -54,7 +54,7 @@ module _ (step : Panel → Record → Step Panel Reply) (alone : MarksAlone step
       let panels = sym (stepped-same p r) ∙ ap (λ (s : Panel). unmarked (stepped s r)) like ∙ stepped-same q r in
       record {
         number = alone .number p r ∙ ap (λ (o : Outcome). o .answer .number) outcomes;
-        answer = alone .answer p r ∙ ap asReply outcomes;
+        answer = alone .answer p r ∙ ap (λ (o : Outcome). replyOf (o .answer)) outcomes;
         next = alone .next p r ∙ panels;
       }
 

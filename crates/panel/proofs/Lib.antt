@@ -3,7 +3,10 @@ pub mod Columns
 pub mod FreshBytes
 pub mod OwnPart
 pub mod PanelLaws
+pub mod StoreRuns
 pub mod RecordNumbers
 pub mod RecordSteps
+pub mod RecordStores
 pub mod TwoChips
 pub mod WholePanel
+pub mod WritePlaces

@@ -17,7 +17,7 @@ use Rattle.sed1520.specs.Replies.{InPlace, inPlace}
 use Rattle.sed1520.specs.declared.bus.Record.{Record}
 use Rattle.sed1520.specs.declared.tally.Tally.{Tally}
 use Rattle.sed1520.proofs.BytesSteps.{step-lengths}
-use Rattle.sed1520.proofs.TogetherCases.{together-named, answers-short, some-run}
+use Rattle.sed1520.proofs.TogetherCases.{together-alike, answers-short, some-run}
 use Rattle.panel.specs.Step.{ownOf, putBack, chipsStep, runChips}
 
 -- 12 bytes of a chip and 320 bytes of RAM
@@ -64,7 +64,7 @@ module _ (chips ram trace answers : List ℕ) (size : length chips ≡ 24) (imag
       let half = part-length 320 k ram image in
       let own = some-run bytesStep 12 320 (partAt 12 k chips) (partAt 320 k ram) trace answers right half room some in
       let rs = front trace ∷ wholeRecords (drop 4 trace) in
-      let named = together-named (front trace) (wholeRecords (drop 4 trace)) in
+      let named = together-alike (λ (q : Record). q .chip ≡ k) (front trace) (λ q _ e. e) (wholeRecords (drop 4 trace)) in
       rw (own, some-run chipsStep 24 640 chips ram trace answers size image room some)
       (rw (own-run chips ram size image k (take (together rs) rs) named)))
       (tested (ltb (length answers) (2 * (length trace / 4))))

@@ -37,10 +37,10 @@ module _ (r : Record) (chips ram : List ℕ) (fit : BothPass chips ram) where
   ram-length : length ownRam ≡ 320
   ram-length = part-length 320 (r .chip) ram (fit .image)
 
-  own-right : bytesPass own ≡ true
+  pub own-right : bytesPass own ≡ true
   own-right = when (λ (b : List ℕ). bytesPass b ≡ true) (eqb (r .chip) 0) (λ _. fit .left) (λ _. fit .right)
 
-  own-chip : chipAt (panelIn chips ram) (r .chip) ≡ chipIn own
+  pub own-chip : chipAt (panelIn chips ram) (r .chip) ≡ chipIn own
   own-chip = rw (two-chips chips (fit .size)) (choice-of chipIn (eqb (r .chip) 0) (take 12 chips) (drop 12 chips))
 
   -- the step is the panel's outcome, put back

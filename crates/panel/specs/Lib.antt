@@ -4,3 +4,4 @@ pub mod Step
 pub mod Trace
 pub mod Promises
 pub mod LatchPromises
+pub mod Stores

@@ -3,12 +3,13 @@
 ghost use mathlib.Core.Path.{_≡_};
 ghost use Rattle.basics.specs.Halves.{partStart};
 ghost use Rattle.sed1520.specs.Replies.{inPlace};
-ghost use Rattle.panel.specs.Step.{runChips};
+ghost use Rattle.panel.specs.Step.{writePlace, runChips};
 use crate::chips::CHIPS_BYTES;
 use crate::chips::IMAGE_BYTES;
 use sed1520::bus::RECORD_BYTES;
 use sed1520::bytes_run::run_of_tested_bytes;
 use sed1520::chip_bytes::CHIP_BYTES;
+use sed1520::memory::image_index;
 use sed1520::registers::Chip;
 use sed1520::tally::Tally;
 
@@ -17,6 +18,25 @@ fn start_of(chip: u8, size: usize) -> usize
     ensures { λ r. ⌜ r ≡ partStart size chip ⌝ }
 {
     if chip == 0 { 0 } else { size }
+}
+
+// Where the data write that a trace begins with stores, as an index in the image of both chips; 0 where it begins with
+// another record or none, or there are not 24 bytes of chips. The chip that it names may stand past its last column, where
+// nothing is stored.
+pub fn write_place(chips: &[u8], trace: &[u8]) -> usize
+    ensures { λ r. ⌜ r ≡ writePlace (now (chips .entry)) (now (trace .entry)) ⌝ }
+{
+    if chips.len() != CHIPS_BYTES {
+        return 0;
+    }
+    if trace.len() < RECORD_BYTES {
+        return 0;
+    }
+    if trace[0] != 3 {
+        return 0;
+    }
+    let from = start_of(trace[1], CHIP_BYTES);
+    image_index(trace[1], chips[from + 5], chips[from + 7])
 }
 
 // The records that a trace begins with and that run together, given to the chip that the first of them names. This is no

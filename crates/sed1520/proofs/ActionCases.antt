@@ -11,8 +11,8 @@ use Rattle.basics.specs.Choice.{if}
 use Rattle.basics.proofs.Tests.{when}
 use Rattle.sed1520.specs.Chip.{stale, staled, withColumn, withLatch}
 use Rattle.sed1520.specs.Command.{decodeOf, codedCommand}
-use Rattle.sed1520.specs.Memory.{ramIndex, byteAt}
-use Rattle.sed1520.specs.Cycle.{Outcome, outcome, refusal, answered, execute, columnRefusal, commandWrite, dataWrite, afterRead}
+use Rattle.sed1520.specs.Memory.{ramIndex, imageIndex, byteAt}
+use Rattle.sed1520.specs.Cycle.{Outcome, outcome, refusal, answered, wroteTo, execute, columnRefusal, commandWrite, dataWrite, afterRead}
 use Rattle.sed1520.specs.declared.registers.Chip.{Chip}
 use Rattle.sed1520.specs.declared.registers.ReadLatch.the-variants.{Fresh}
 use Rattle.sed1520.specs.declared.commands.Command.{Command}
@@ -39,19 +39,24 @@ module _ (b : ℕ) (c : Chip) where
 
 module _ (c : Chip) (ram : List ℕ) where
   -- every data write is done, and leaves the latch stale with its byte
-  pub data-write-done : (b : ℕ) → dataWrite b c ram .answer ≡ answered 0 0 (dataWrite b c ram .answer .chip)
+  pub data-write-done : (k b : ℕ) → dataWrite k b c ram .answer .number ≡ 0
   unfolding dataWrite
-  data-write-done b = when (λ (o : Outcome). o .answer ≡ answered 0 0 (o .answer .chip)) (ltb (c .column) 80) (λ _. refl) (λ _. refl)
+  data-write-done k b = when (λ (o : Outcome). o .answer .number ≡ 0) (ltb (c .column) 80) (λ _. refl) (λ _. refl)
 
-  pub data-write-stale : (b : ℕ) → dataWrite b c ram .answer .chip .latch ≡ stale (c .latch)
+  pub data-write-kind : (k b : ℕ) → dataWrite k b c ram .answer .kind ≡ 0
   unfolding dataWrite
-  data-write-stale b = when (λ (o : Outcome). o .answer .chip .latch ≡ stale (c .latch)) (ltb (c .column) 80) (λ _. refl) (λ _. refl)
+  data-write-kind k b = when (λ (o : Outcome). o .answer .kind ≡ 0) (ltb (c .column) 80) (λ _. refl) (λ _. refl)
+
+  pub data-write-stale : (k b : ℕ) → dataWrite k b c ram .answer .chip .latch ≡ stale (c .latch)
+  unfolding dataWrite
+  data-write-stale k b = when (λ (o : Outcome). o .answer .chip .latch ≡ stale (c .latch)) (ltb (c .column) 80) (λ _. refl) (λ _. refl)
 
   module _ (room : c .column < 80) where
-    pub data-write-stored : (b : ℕ)
-        → dataWrite b c ram ≡ outcome (answered 0 0 (staled (withColumn (c .column + 1) c))) (set ram (ramIndex (c .page) (c .column)) b)
+    pub data-write-stored : (k b : ℕ)
+        → dataWrite k b c ram
+        ≡ outcome (wroteTo (imageIndex k (c .page) (c .column)) (staled (withColumn (c .column + 1) c))) (set ram (ramIndex (c .page) (c .column)) b)
     unfolding dataWrite
-    data-write-stored b = rw (lt-ltb (c .column) 80 room)
+    data-write-stored k b = rw (lt-ltb (c .column) 80 room)
 
     pub after-read-below : afterRead c ram
         ≡ withLatch (Fresh (byteAt ram (c .page) (c .column))) (withColumn (if (c .modify) (c .column) (c .column + 1)) c)
@@ -67,9 +72,9 @@ module _ (c : Chip) (ram : List ℕ) where
     after-read-counted off = after-read-below ∙ rw off
 
   module _ (stopped : 80 ≤ c .column) where
-    pub data-write-stopped : (b : ℕ) → dataWrite b c ram ≡ outcome (answered 0 0 (staled c)) ram
+    pub data-write-stopped : (k b : ℕ) → dataWrite k b c ram ≡ outcome (answered 0 0 (staled c)) ram
     unfolding dataWrite
-    data-write-stopped b = rw (le-ltb (c .column) 80 stopped)
+    data-write-stopped k b = rw (le-ltb (c .column) 80 stopped)
 
     pub after-read-stopped : afterRead c ram ≡ staled c
     unfolding afterRead

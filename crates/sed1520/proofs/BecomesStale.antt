@@ -22,7 +22,7 @@ module _ (c : Chip) (ram : List ℕ) (fit : Fit c ram) (k : ℕ) (addressed : k 
   data-write : (b : ℕ) → Stales (sent 3 k b) c ram
   data-write b =
       let done = write-cycle c ram fit k addressed b in
-      record { number = rw (done, data-write-done c ram b); latch = rw done (data-write-stale c ram b) }
+      record { number = rw done (data-write-done c ram k b); latch = rw done (data-write-stale c ram k b) }
 
 pub latch-becomes-stale : LatchBecomesStale
 latch-becomes-stale = record { page-set = page-set; data-write = data-write }

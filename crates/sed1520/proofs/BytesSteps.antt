@@ -15,7 +15,7 @@ use Rattle.sed1520.specs.Replies.{reply}
 use Rattle.sed1520.specs.ChipBytes.{chipBytes, registersIn}
 use Rattle.sed1520.specs.Command.{decodeOf}
 use Rattle.sed1520.specs.Cycle.{Outcome, outcome, busRefusal, columnRefusal, execute, executed, commandWrite, dataWrite, afterRead, dataRead}
-use Rattle.sed1520.specs.Cycle.{addressLine, writeLine, statusByte, actionOf, stepOf, Reply, asStep}
+use Rattle.sed1520.specs.Cycle.{addressLine, writeLine, statusByte, actionOf, stepOf, Reply, replyOf, asStep}
 use Rattle.sed1520.specs.Promises.{EveryBytesStep}
 use Rattle.sed1520.specs.declared.actions.Answer.{Answer}
 use Rattle.sed1520.specs.declared.bus.Record.{Record}
@@ -35,15 +35,14 @@ accepted a next = record { number = 0; answer = a; next = next }
 abbrev stepTo : BytesAndRam → Record → Outcome → Step BytesAndRam Reply
 stepTo s r o = asStep o (withRam (storedBy (o .answer) (setByRecord r (registersIn (s .bytes) .modify)) (s .bytes)) (o .ram))
 
--- a command answers kind 0, byte 0
-command-kind : (b : ℕ) (c : Chip) → (commandWrite b c .kind ≡ 0) × (commandWrite b c .byte ≡ 0)
+-- a command answers kind 0, byte 0, and stores nothing
+command-reply : (b : ℕ) (c : Chip) → replyOf (commandWrite b c) ≡ reply 0 0
 unfolding commandWrite
-command-kind b c = decoded (decodeOf b .value)
+command-reply b c = decoded (decodeOf b .value)
   where
-    decoded : (o : Option Command) → (executed b o c .kind ≡ 0) × (executed b o c .byte ≡ 0)
-    decoded none = (refl, refl)
-    decoded (some m) =
-        when (λ (a : Answer). (a .kind ≡ 0) × (a .byte ≡ 0)) (eqb (columnRefusal b (c .modify)) 0) (λ _. (refl, refl)) (λ _. (refl, refl))
+    decoded : (o : Option Command) → replyOf (executed b o c) ≡ reply 0 0
+    decoded none = refl
+    decoded (some m) = when (λ (a : Answer). replyOf a ≡ reply 0 0) (eqb (columnRefusal b (c .modify)) 0) (λ _. refl) (λ _. refl)
 
 module _ (s : BytesAndRam) (r : Record) where
   abbrev own : Chip
@@ -58,7 +57,7 @@ module _ (s : BytesAndRam) (r : Record) where
 
   module _ (e : busRefusal r ≡ 0) where
     pub status-step : r .lines ≡ 4 → bytesStep s r ≡ accepted (reply 3 (statusByte own)) s
-    status-step is = by-outcome (step-action r own (s .ram) e ∙ action-status (r .lines) (r .byte) own (s .ram) is) ∙ rw is
+    status-step is = by-outcome (step-action r own (s .ram) e ∙ action-status r own (s .ram) is) ∙ rw is
 
     -- a command: its number, and where it is executed
     module _ (is : r .lines ≡ 2) where
@@ -66,13 +65,13 @@ module _ (s : BytesAndRam) (r : Record) where
       written = commandWrite (r .byte) own
 
       command-outcome : bytesStep s r ≡ stepTo s r (outcome written (s .ram))
-      command-outcome = by-outcome (step-action r own (s .ram) e ∙ action-command (r .lines) (r .byte) own (s .ram) is)
+      command-outcome = by-outcome (step-action r own (s .ram) e ∙ action-command r own (s .ram) is)
 
       pub command-number : bytesStep s r .number ≡ written .number
       command-number = rw command-outcome
 
       pub command-step : written .number ≡ 0 → bytesStep s r ≡ accepted (reply 0 0) (withRam (commandBytes (r .byte) (s .bytes)) (s .ram))
-      command-step done = let answer = command-kind (r .byte) own in command-outcome ∙ rw (done, answer .0, answer .1, is)
+      command-step done = command-outcome ∙ rw (done, command-reply (r .byte) own, is)
 
 -- on the bytes of a chip, what a record stores is all that it changes
 module _ (c : Chip) (ram : List ℕ) where
@@ -82,9 +81,9 @@ module _ (c : Chip) (ram : List ℕ) where
   abbrev AllStored : List ℕ → Answer → Type 0
   AllStored places a = storedBy a places (chipBytes c) ≡ chipBytes (a .chip)
 
-  write-stored : (b : ℕ) → AllStored (7 ∷ 9 ∷ []) (dataWrite b c ram .answer)
+  write-stored : (k b : ℕ) → AllStored (7 ∷ 9 ∷ []) (dataWrite k b c ram .answer)
   unfolding dataWrite chipBytes
-  write-stored b = when (λ (o : Outcome). AllStored (7 ∷ 9 ∷ []) (o .answer)) (ltb (c .column) 80) (λ _. refl) (λ _. refl)
+  write-stored k b = when (λ (o : Outcome). AllStored (7 ∷ 9 ∷ []) (o .answer)) (ltb (c .column) 80) (λ _. refl) (λ _. refl)
 
   read-stored : AllStored (7 ∷ 9 ∷ 10 ∷ []) (dataRead c ram)
   unfolding dataRead afterRead chipBytes
@@ -114,13 +113,13 @@ module _ (c : Chip) (ram : List ℕ) where
           (λ _. execute-stored (m .opcode) (m .argument)) (λ no. rw no)
 
   -- so it is of any record
-  action-stored : (r : Record) → AllStored (setByRecord r (c .modify)) (actionOf (r .lines) (r .byte) c ram .answer)
+  action-stored : (r : Record) → AllStored (setByRecord r (c .modify)) (actionOf r c ram .answer)
   unfolding actionOf
   action-stored r =
       let write = eqb (writeLine (r .lines)) 0 in
       let command = eqb (addressLine (r .lines)) 0 in
       when-both Stored write write refl
-      (λ _. when-both Stored command command refl (λ _. command-stored (r .byte)) (λ _. write-stored (r .byte)))
+      (λ _. when-both Stored command command refl (λ _. command-stored (r .byte)) (λ _. write-stored (r .chip) (r .byte)))
       (λ _. when-both Stored command command refl (λ _. refl) (λ _. read-stored))
     where
       Stored : List ℕ → Outcome → Type 0
@@ -138,12 +137,13 @@ stored-length : (places b : List ℕ) (next : Chip) → length (stored places b 
 stored-length [] b next = refl
 stored-length (p ∷ ps) b next = stored-length ps (set b p (getD (chipBytes next) p 0)) next ∙ length-set b p _
 
-action-length : (lines b : ℕ) (c : Chip) (ram : List ℕ) → length (actionOf lines b c ram .ram) ≡ length ram
+action-length : (r : Record) (c : Chip) (ram : List ℕ) → length (actionOf r c ram .ram) ≡ length ram
 unfolding actionOf dataWrite
-action-length lines b c ram =
-    when Same (eqb (writeLine lines) 0)
-    (λ _. when Same (eqb (addressLine lines) 0) (λ _. refl) (λ _. when Same (ltb (c .column) 80) (λ _. length-set ram _ b) (λ _. refl)))
-    (λ _. when Same (eqb (addressLine lines) 0) (λ _. refl) (λ _. refl))
+action-length r c ram =
+    when Same (eqb (writeLine (r .lines)) 0)
+    (λ _. when Same (eqb (addressLine (r .lines)) 0) (λ _. refl)
+    (λ _. when Same (ltb (c .column) 80) (λ _. length-set ram _ (r .byte)) (λ _. refl)))
+    (λ _. when Same (eqb (addressLine (r .lines)) 0) (λ _. refl) (λ _. refl))
   where
     Same : Outcome → Type 0
     Same o = length (o .ram) ≡ length ram
@@ -154,7 +154,7 @@ unfolding bytesStep stepOf
 step-lengths s r = (
   when (λ (b : List ℕ). length b ≡ length (s .bytes)) (eqb (stepOf r (own s r) (s .ram) .answer .number) 0)
       (λ _. stored-length (setByRecord r (own s r .modify)) (s .bytes) (stepOf r (own s r) (s .ram) .answer .chip)) (λ _. refl),
-  when (λ (o : Outcome). length (o .ram) ≡ length (s .ram)) (eqb (busRefusal r) 0) (λ _. action-length (r .lines) (r .byte) _ (s .ram)) (λ _. refl),
+  when (λ (o : Outcome). length (o .ram) ≡ length (s .ram)) (eqb (busRefusal r) 0) (λ _. action-length r _ (s .ram)) (λ _. refl),
 )
 
 pub every-bytes-step : EveryBytesStep

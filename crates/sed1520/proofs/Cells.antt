@@ -1,5 +1,5 @@
--- The byte of a page and a column: it lies within the RAM, those of two pages or columns lie apart, and what is read after a write.
-use Prim.Native.Nat.{ℕ, _<_}
+-- The byte of a page and a column: it lies within the RAM, that of the next column comes next, those of two pages or columns lie apart, and what is read after a write.
+use Prim.Native.Nat.{ℕ, _+_, _<_}
 use native.Mathlib.Omega.{arith}
 use mathlib.Core.Path.{_≡_}
 use mathlib.Core.List.{List}
@@ -10,6 +10,10 @@ use Rattle.sed1520.specs.Memory.{ramIndex, byteAt, byteSet}
 pub within-ram : (page column : ℕ) → page < 4 → column < 80 → ramIndex page column < 320
 unfolding ramIndex
 within-ram page column h l = omega arith
+
+pub next-cell : (page column : ℕ) → ramIndex page (column + 1) ≡ ramIndex page column + 1
+unfolding ramIndex
+next-cell page column = omega arith
 
 pub same-cell : (page column page′ column′ : ℕ) → column < 80 → column′ < 80 → ramIndex page column ≡ ramIndex page′ column′
     → (page ≡ page′) × (column ≡ column′)

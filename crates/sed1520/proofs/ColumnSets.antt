@@ -32,7 +32,7 @@ module _ (c : Chip) (ram : List ℕ) (fit : Fit c ram) (k : ℕ) (addressed : k 
   refused-set number e held =
       let known = ap (λ (t : Coded Command). t .value) (decoded-argument Column n set) in
       action-cycle c ram fit k addressed 2 (first Column + n) (omega arith) (omega arith)
-      ∙ action-command 2 (first Column + n) c ram refl
+      ∙ action-command (sent 2 k (first Column + n)) c ram refl
       ∙ rw (command-refused (first Column + n) c _ known (λ none. held (sym e ∙ none)), e)
 
   column-set : ColumnSet c ram k n

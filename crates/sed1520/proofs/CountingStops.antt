@@ -15,7 +15,7 @@ use Rattle.sed1520.proofs.SentRecords.{write-cycle, read-cycle}
 module _ (c : Chip) (ram : List ℕ) (fit : Fit c ram) (k : ℕ) (addressed : k < 2) (b : ℕ) where
   module _ (last : suc (c .column) ≡ columnStop) where
     by-write : cycleOf (sent 3 k b) c ram .answer .chip .column ≡ columnStop
-    by-write = rw (write-cycle c ram fit k addressed b) (rw (data-write-stored c ram (omega arith) b) (omega arith))
+    by-write = rw (write-cycle c ram fit k addressed b) (rw (data-write-stored c ram (omega arith) k b) (omega arith))
 
     by-read : c .modify ≡ false → cycleOf (sent 5 k b) c ram .answer .chip .column ≡ columnStop
     unfolding dataRead
@@ -23,7 +23,7 @@ module _ (c : Chip) (ram : List ℕ) (fit : Fit c ram) (k : ℕ) (addressed : k 
 
   module _ (stopped : c .column ≡ columnStop) where
     write-stays : cycleOf (sent 3 k b) c ram ≡ outcome (answered 0 0 (staled c)) ram
-    write-stays = write-cycle c ram fit k addressed b ∙ data-write-stopped c ram (omega arith) b
+    write-stays = write-cycle c ram fit k addressed b ∙ data-write-stopped c ram (omega arith) k b
 
     read-stays : cycleOf (sent 5 k b) c ram ≡ outcome (answered (readKind (c .latch)) (latched (c .latch)) (staled c)) ram
     unfolding dataRead

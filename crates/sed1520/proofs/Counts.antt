@@ -10,7 +10,7 @@ use lib.ListN.{length, getD, take}
 use Rattle.basics.specs.Choice.{if}
 use Rattle.sed1520.specs.Cycle.{Reply}
 use Rattle.sed1520.specs.declared.bus.Record.{Record}
-use Rattle.sed1520.specs.Replies.{isCompared, comparedIn, differingIn}
+use Rattle.sed1520.specs.Replies.{isCompared, comparedIn, differingIn, isByte, storesTo}
 
 pub at-most-one : (t : Bool) → if t 1 0 ≤ 1
 at-most-one true = omega arith
@@ -101,3 +101,14 @@ differing-prefix zero given rs = refl
 differing-prefix (suc k) [] rs = refl
 differing-prefix (suc k) (a ∷ given) [] = refl
 differing-prefix (suc k) (a ∷ given) (r ∷ rs) = rw (differing-prefix k given rs)
+
+-- the stores to one byte
+pub stores-bound : (i : ℕ) (given : List Reply) → storesTo i given ≤ length given
+unfolding storesTo
+stores-bound i [] = omega arith
+stores-bound i (a ∷ more) = omega (arith, at-most-one (isByte i (a .stored)), stores-bound i more)
+
+pub stores-join : (i : ℕ) (given more : List Reply) → storesTo i (given ++ more) ≡ storesTo i given + storesTo i more
+unfolding storesTo
+stores-join i [] more = omega arith
+stores-join i (a ∷ given) more = rw (stores-join i given more) (omega arith)

@@ -10,8 +10,9 @@ use borrow.Author.Tests.{ltb-true}
 use Rattle.basics.specs.Choice.{if}
 use Rattle.sed1520.specs.Command.{first}
 use Rattle.sed1520.specs.Memory.{ramIndex}
-use Rattle.sed1520.specs.Cycle.{outcome, refusal, answered, execute, dataWrite, afterRead, dataRead, cycleOf}
+use Rattle.sed1520.specs.Cycle.{outcome, refusal, execute, dataWrite, afterRead, dataRead, cycleOf}
 use Rattle.sed1520.specs.Promises.{Keeps, EveryCycleKeeps}
+use Rattle.sed1520.specs.declared.actions.Answer.{Answer}
 use Rattle.sed1520.specs.declared.registers.Chip.{Chip}
 use Rattle.sed1520.specs.declared.commands.Opcode.{Opcode}
 use Rattle.sed1520.specs.declared.commands.Opcode.the-variants.{Display, StartLine, Page, Column, Adc, Static, Duty, Modify, End, Reset}
@@ -37,10 +38,10 @@ execute-ranges Reset a c h r = search needs
 
 -- a cycle that is done with a chip in range keeps what is asked; so does one that is refused
 module _ (c : Chip) (ram : List ℕ) where
-  done-keeps : (k b : ℕ) (next : Chip) (after : List ℕ) → (Ranges c → Ranges next) → length after ≡ length ram
-      → Keeps c ram (outcome (answered k b next) after)
-  done-keeps k b next after r l =
-      record { place = refl; same-size = l; range = λ e. in-range next (r (ranges c e)); refused = λ h. absurd (h refl) }
+  done-keeps : (a : Answer) (after : List ℕ) → (a .number ≡ 0) × (a .place ≡ 0) → (Ranges c → Ranges (a .chip)) → length after ≡ length ram
+      → Keeps c ram (outcome a after)
+  done-keeps a after done r l =
+      record { place = done .1; same-size = l; range = λ e. in-range (a .chip) (r (ranges c e)); refused = λ h. absurd (h (done .0)) }
 
   refusal-keeps : (n : ℕ) → Keeps c ram (outcome (refusal n c) ram)
   refusal-keeps n = record { place = refl; same-size = refl; range = λ e. e; refused = λ h. refl }
@@ -54,13 +55,13 @@ module _ (c : Chip) (ram : List ℕ) where
       search needs)
       (λ _. search needs)
 
-  write-keeps : (b : ℕ) → Keeps c ram (dataWrite b c ram)
+  write-keeps : (k b : ℕ) → Keeps c ram (dataWrite k b c ram)
   unfolding dataWrite
-  write-keeps b =
+  write-keeps k b =
       when (Keeps c ram) (ltb (c .column) 80)
       (λ below. let h = ltb-true (c .column) 80 below in
-      done-keeps 0 0 _ _ (λ r. search needs) (length-set ram (ramIndex (c .page) (c .column)) b))
-      (λ _. done-keeps 0 0 _ ram (λ r. search needs) refl)
+      done-keeps _ _ (refl, refl) (λ r. search needs) (length-set ram (ramIndex (c .page) (c .column)) b))
+      (λ _. done-keeps _ ram (refl, refl) (λ r. search needs) refl)
 
   pub cycle-keeps : (r : Record) → Keeps c ram (cycleOf r c ram)
   unfolding dataRead
@@ -68,10 +69,10 @@ module _ (c : Chip) (ram : List ℕ) where
       each-cycle (λ o _. Keeps c ram o) r c c ram refl refl
       (record {
         refused = refusal-keeps;
-        command = λ _ k a h. done-keeps 0 0 (execute k a c) ram (execute-ranges k a c h) refl;
-        data-write = λ _. write-keeps;
-        status-read = λ _. done-keeps 3 _ c ram (λ h. h) refl;
-        data-read = λ _. done-keeps _ _ (afterRead c ram) ram after-read-ranges refl;
+        command = λ _ k a h. done-keeps _ ram (refl, refl) (execute-ranges k a c h) refl;
+        data-write = λ _. write-keeps (r .chip) (r .byte);
+        status-read = λ _. done-keeps _ ram (refl, refl) (λ h. h) refl;
+        data-read = λ _. done-keeps _ ram (refl, refl) after-read-ranges refl;
       })
 
 pub every-cycle-keeps : EveryCycleKeeps

@@ -1,14 +1,15 @@
 -- The laws of the records that a repaint sends: a page set, a column set, a start line set, and a data write at a column that the chip has.
 use Prim.Native.Nat.{ℕ, _+_, _<_}
 use native.Mathlib.Omega.{arith}
-use mathlib.Core.Path.{_≡_, _∙_}
+use mathlib.Core.Path.{_≡_, refl, _∙_}
 use mathlib.Core.Bool.{false}
 use mathlib.Core.List.{List}
 use Rattle.sed1520.specs.Chip.{withPage, withColumn, withStartLine}
 use Rattle.sed1520.specs.Command.{first, count}
 use Rattle.sed1520.specs.Memory.{byteSet}
-use Rattle.sed1520.specs.Cycle.{outcome, answered, execute, columnRefusal, cycleOf}
+use Rattle.sed1520.specs.Cycle.{outcome, execute, columnRefusal, cycleOf}
 use Rattle.sed1520.specs.Laws.{paintRegisters, sent, Fit, Accepts, CycleLaws}
+use Rattle.sed1520.specs.declared.actions.Answer.{Answer}
 use Rattle.sed1520.specs.declared.registers.Chip.{Chip}
 use Rattle.sed1520.specs.declared.commands.Opcode.{Opcode}
 use Rattle.sed1520.specs.declared.commands.Opcode.the-variants.{StartLine, Page, Column}
@@ -20,12 +21,12 @@ use Rattle.sed1520.proofs.SentRecords.{write-cycle, command-cycle}
 
 module _ (c : Chip) (ram : List ℕ) (fit : Fit c ram) where
   -- a cycle whose outcome is known
-  accepted : (r : Record) (next : Chip) (after : List ℕ) → cycleOf r c ram ≡ outcome (answered 0 0 next) after
-      → Accepts r c ram (paintRegisters next) after
-  accepted r next after e =
+  accepted : (r : Record) (a : Answer) (after : List ℕ) → a .number ≡ 0 → cycleOf r c ram ≡ outcome a after
+      → Accepts r c ram (paintRegisters (a .chip)) after
+  accepted r a after done e =
       let keeps = cycle-keeps c ram r in
       record {
-        number = rw e;
+        number = rw e done;
         place = keeps .place;
         registers-after = rw e;
         ram-after = rw e;
@@ -36,7 +37,7 @@ module _ (c : Chip) (ram : List ℕ) (fit : Fit c ram) where
     -- an accepted command of any opcode
     command-set : (kind : Opcode) (a : ℕ) → a < count kind → columnRefusal (first kind + a) (c .modify) ≡ 0
         → Accepts (sent 2 k (first kind + a)) c ram (paintRegisters (execute kind a c)) ram
-    command-set kind a h free = accepted (sent 2 k (first kind + a)) (execute kind a c) ram (command-cycle c ram fit k addressed kind a h free)
+    command-set kind a h free = accepted (sent 2 k (first kind + a)) _ ram refl (command-cycle c ram fit k addressed kind a h free)
 
     page-set : (n : ℕ) → n < 4 → Accepts (sent 2 k (first Page + n)) c ram (paintRegisters (withPage n c)) ram
     unfolding execute
@@ -53,8 +54,8 @@ module _ (c : Chip) (ram : List ℕ) (fit : Fit c ram) where
     data-write : (b : ℕ) → c .column < 80
         → Accepts (sent 3 k b) c ram (paintRegisters (withColumn (c .column + 1) c)) (byteSet ram (c .page) (c .column) b)
     data-write b h =
-        accepted (sent 3 k b) _ (byteSet ram (c .page) (c .column) b)
-        (write-cycle c ram fit k addressed b ∙ data-write-stored c ram h b)
+        accepted (sent 3 k b) _ (byteSet ram (c .page) (c .column) b) refl
+        (write-cycle c ram fit k addressed b ∙ data-write-stored c ram h k b)
 
 pub cycle-laws : CycleLaws
 cycle-laws = record { page-set = page-set; start-line-set = start-line-set; column-set = column-set; data-write = data-write }

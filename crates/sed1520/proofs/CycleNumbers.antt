@@ -59,7 +59,7 @@ module _ (r : Record) (c : Chip) (ram : List ℕ) where
   unfolding commandWrite decodeOf
   command-number lines = commanded (r .byte) (among opcodes (r .byte)) ∙ rw lines
 
-  action-number : Asks r → Has (actionOf (r .lines) (r .byte) c ram) (verdictBy (commandTable r c) (verdict 0 0))
+  action-number : Asks r → Has (actionOf r c ram) (verdictBy (commandTable r c) (verdict 0 0))
   unfolding actionOf dataWrite dataRead
   action-number asked =
       let lines = r .lines in

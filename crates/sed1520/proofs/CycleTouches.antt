@@ -24,7 +24,7 @@ module _ (r : Record) (c : Chip) (ram : List ℕ) where
       (record {
         refused = λ n. refl;
         command = λ lines. absurd (other lines);
-        data-write = λ _ b. when RegistersKept (ltb (c .column) 80) (λ _. refl) (λ _. refl);
+        data-write = λ _. when RegistersKept (ltb (c .column) 80) (λ _. refl) (λ _. refl);
         status-read = λ _. refl;
         data-read = λ _. when (λ (d : Chip). shownBy d ≡ shownBy c) (ltb (c .column) 80) (λ _. refl) (λ _. refl);
       })
@@ -51,9 +51,9 @@ module _ (r : Record) (c : Chip) (ram : List ℕ) where
         (record {
           refused = λ n. refl;
           command = λ _ k a h. refl;
-          data-write = λ _ b.
+          data-write = λ _.
               when ByteKept (ltb (c .column) 80)
-              (λ below. read-other ram (c .page) (c .column) b (ltb-true (c .column) 80 below) page column near (λ _. apart))
+              (λ below. read-other ram (c .page) (c .column) (r .byte) (ltb-true (c .column) 80 below) page column near (λ _. apart))
               (λ _. refl);
           status-read = λ _. refl;
           data-read = λ _. refl;

@@ -11,8 +11,8 @@ use Rattle.sed1520.specs.Chip.{latched, readKind}
 use Rattle.sed1520.specs.ChipBytes.{bit, flag, chipBytes, registersIn}
 use Rattle.sed1520.specs.Cycle.{Outcome, outcome, answered, busRefusal, stepOf, dataWrite, afterRead, dataRead, Reply}
 use Rattle.sed1520.specs.Laws.{sent}
-use Rattle.sed1520.specs.Memory.{byteAt, byteSet}
-use Rattle.sed1520.specs.Replies.{isCompared, reply}
+use Rattle.sed1520.specs.Memory.{imageIndex, byteAt, byteSet}
+use Rattle.sed1520.specs.Replies.{isCompared, reply, writeReply}
 use Rattle.sed1520.specs.declared.registers.Chip.{Chip}
 use Rattle.sed1520.specs.declared.registers.ReadLatch.the-variants.{Fresh, Stale}
 use Rattle.sed1520.proofs.ActionCases.{data-write-stored, data-write-stopped, after-read-below, after-read-stopped}
@@ -45,8 +45,8 @@ module _ (k : ℕ) (addressed : k < 2) (v : ℕ) where
   not-refused-sent : (lines : ℕ) → 2 ≤ lines → lines ≤ 5 → busRefusal (sent lines k v) ≡ 0
   not-refused-sent lines low high = not-refused (sent lines k v) (omega arith) refl addressed (strobes-differ lines low high)
 
-  writes : (s : BytesAndRam) → stepOf (sent 3 k v) (registersIn (s .bytes)) (s .ram) ≡ dataWrite v (registersIn (s .bytes)) (s .ram)
-  writes s = step-action (sent 3 k v) _ _ (not-refused-sent 3 (omega arith) (omega arith)) ∙ action-data-write 3 v _ _ refl
+  writes : (s : BytesAndRam) → stepOf (sent 3 k v) (registersIn (s .bytes)) (s .ram) ≡ dataWrite k v (registersIn (s .bytes)) (s .ram)
+  writes s = step-action (sent 3 k v) _ _ (not-refused-sent 3 (omega arith) (omega arith)) ∙ action-data-write (sent 3 k v) _ _ refl
 
   -- what a data read answers, with a chip afterwards
   abbrev answering : BytesAndRam → Chip → Outcome
@@ -54,7 +54,7 @@ module _ (k : ℕ) (addressed : k < 2) (v : ℕ) where
 
   reads : (s : BytesAndRam) → stepOf (sent 5 k v) (registersIn (s .bytes)) (s .ram) ≡ answering s (afterRead (registersIn (s .bytes)) (s .ram))
   unfolding dataRead
-  reads s = step-action (sent 5 k v) _ _ (not-refused-sent 5 (omega arith) (omega arith)) ∙ action-data-read 5 v _ _ refl
+  reads s = step-action (sent 5 k v) _ _ (not-refused-sent 5 (omega arith) (omega arith)) ∙ action-data-read (sent 5 k v) _ _ refl
 
   -- a data write below the stop, and from it on
   module _ (column mark : ℕ) (ram : List ℕ) where
@@ -63,19 +63,21 @@ module _ (k : ℕ) (addressed : k < 2) (v : ℕ) where
 
     pub write-below : (b : List ℕ) → length b ≡ 12 → column < 80
         → bytesStep (written b) (sent 3 k v)
-        ≡ accepted (reply 0 0) (withRam (set (set b 7 (column + 1)) 9 0) (byteSet ram (getD b 5 0) column v))
+        ≡ accepted (writeReply (imageIndex k (getD b 5 0) column))
+        (withRam (set (set b 7 (column + 1)) 9 0) (byteSet ram (getD b 5 0) column v))
     unfolding registersIn chipBytes
     write-below b size below =
         twelve (λ (b : List ℕ). bytesStep (written b) (sent 3 k v)
-        ≡ accepted (reply 0 0) (withRam (set (set b 7 (column + 1)) 9 0) (byteSet ram (getD b 5 0) column v))) b size
-        (λ at. let s = written (twelveBy at) in by-outcome s (sent 3 k v) (writes s ∙ data-write-stored (registersIn (s .bytes)) ram below v))
+        ≡ accepted (writeReply (imageIndex k (getD b 5 0) column))
+        (withRam (set (set b 7 (column + 1)) 9 0) (byteSet ram (getD b 5 0) column v))) b size
+        (λ at. let s = written (twelveBy at) in by-outcome s (sent 3 k v) (writes s ∙ data-write-stored (registersIn (s .bytes)) ram below k v))
 
     pub write-past : (b : List ℕ) → length b ≡ 12 → 80 ≤ column
         → bytesStep (written b) (sent 3 k v) ≡ accepted (reply 0 0) (withRam (set (set b 7 column) 9 0) ram)
     unfolding registersIn chipBytes
     write-past b size past =
         twelve (λ (b : List ℕ). bytesStep (written b) (sent 3 k v) ≡ accepted (reply 0 0) (withRam (set (set b 7 column) 9 0) ram)) b size
-        (λ at. let s = written (twelveBy at) in by-outcome s (sent 3 k v) (writes s ∙ data-write-stopped (registersIn (s .bytes)) ram past v))
+        (λ at. let s = written (twelveBy at) in by-outcome s (sent 3 k v) (writes s ∙ data-write-stopped (registersIn (s .bytes)) ram past k v))
 
     -- a data read below the stop, and from it on
     module _ (latch : ℕ) where

@@ -32,7 +32,7 @@ pub record EachWay (P : Outcome → Outcome → Type 0) (r : Record) (c d : Chip
   pub refused : (n : ℕ) → P (outcome (refusal n c) ram) (outcome (refusal n d) ram)
   pub command : r .lines ≡ 2 → (k : Opcode) (a : ℕ) → Executed k a c
       → P (outcome (answered 0 0 (execute k a c)) ram) (outcome (answered 0 0 (execute k a d)) ram)
-  pub data-write : r .lines ≡ 3 → (b : ℕ) → P (dataWrite b c ram) (dataWrite b d ram)
+  pub data-write : r .lines ≡ 3 → P (dataWrite (r .chip) (r .byte) c ram) (dataWrite (r .chip) (r .byte) d ram)
   pub status-read : r .lines ≡ 4 → P (outcome (statusRead c) ram) (outcome (statusRead d) ram)
   pub data-read : r .lines ≡ 5 → P (outcome (dataRead c ram) ram) (outcome (dataRead d ram) ram)
 
@@ -50,7 +50,7 @@ module _ (P : Outcome → Outcome → Type 0) (r : Record) (c d : Chip) (ram : L
       (record { argument = h m refl .0; column = rw (h m refl .1) (eqb-true number 0 free) }))
       (λ _. rw (sym same) (way .refused number))
 
-  each-action : busRefusal r ≡ 0 → P (actionOf (r .lines) (r .byte) c ram) (actionOf (r .lines) (r .byte) d ram)
+  each-action : busRefusal r ≡ 0 → P (actionOf r c ram) (actionOf r d ram)
   unfolding actionOf commandWrite
   each-action accepted =
       let lines = r .lines in
@@ -61,7 +61,7 @@ module _ (P : Outcome → Outcome → Type 0) (r : Record) (c d : Chip) (ram : L
       when-both P (eqb (addressLine lines) 0) _ refl
       (λ even. each-command (omega (arith, from, low, eqb-true (addressLine lines) 0 even))
       (r .byte) (decodeOf (r .byte) .value) (λ m e. coded-place (r .byte) m e))
-      (λ odd. way .data-write (omega (arith, from, low, eqb-false (addressLine lines) 0 odd)) (r .byte)))
+      (λ odd. way .data-write (omega (arith, from, low, eqb-false (addressLine lines) 0 odd))))
       (λ high. let high : 4 ≤ lines = omega (arith, to, eqb-false (writeLine lines) 0 high) in
       when-both P (eqb (addressLine lines) 0) _ refl
       (λ even. way .status-read (omega (arith, to, high, eqb-true (addressLine lines) 0 even)))

@@ -17,7 +17,7 @@ use Rattle.sed1520.specs.declared.registers.ReadLatch.the-variants.{Fres
 use Rattle.sed1520.specs.declared.commands.Opcode.{Opcode}
 use Rattle.sed1520.specs.declared.commands.Opcode.the-variants.{Display, StartLine, Page, Column, Adc, Static, Duty, Modify, End, Reset}
 use Rattle.sed1520.specs.declared.bus.Record.{Record}
-use Rattle.sed1520.proofs.ActionCases.{data-write-done, data-write-stale}
+use Rattle.sed1520.proofs.ActionCases.{data-write-kind, data-write-stale}
 use Rattle.sed1520.proofs.EachWay.{each-cycle}
 
 -- a stale latch is not a fresh one
@@ -71,7 +71,7 @@ module _ (c : Chip) (ram : List ℕ) (stands : FreshStands c ram) where
       (record {
         refused = λ n. stands;
         command = λ _ k a h. executed-stands k a;
-        data-write = λ _ b x e. absurd (not-fresh (sym (data-write-stale c ram b) ∙ e));
+        data-write = λ _ x e. absurd (not-fresh (sym (data-write-stale c ram (r .chip) (r .byte)) ∙ e));
         status-read = λ _. stands;
         data-read = λ _. read-stands;
       })
@@ -88,7 +88,7 @@ fresh-answer c ram r =
     (record {
       refused = λ n e. absurd (omega arith);
       command = λ _ k a h e. absurd (omega arith);
-      data-write = λ _ b e. let written = rw (data-write-done c ram b) at e in absurd (omega arith);
+      data-write = λ _ e. let written = rw (data-write-kind c ram (r .chip) (r .byte)) at e in absurd (omega arith);
       status-read = λ _ e. absurd (omega arith);
       data-read = λ _. by-kind (c .latch);
     })

@@ -10,6 +10,7 @@ pub mod CommandBytes
 pub mod CycleKeeps
 pub mod CycleLaws
 pub mod CycleTouches
+pub mod CycleStores
 pub mod CycleNumbers
 pub mod EachWay
 pub mod Examples

@@ -18,7 +18,7 @@ use Rattle.sed1520.specs.BytesRun.{BytesAndRam, bytesStep, carries, runL
 use Rattle.sed1520.specs.Cycle.{Reply}
 use Rattle.sed1520.specs.Laws.{sent}
 use Rattle.sed1520.specs.Records.{front, wholeRecords}
-use Rattle.sed1520.specs.Replies.{isCompared, comparedIn, differingIn, replyBytes, repliesBytes, tally, inPlace, reply}
+use Rattle.sed1520.specs.Replies.{isCompared, comparedIn, differingIn, replyBytes, repliesBytes, tally, inPlace}
 use Rattle.sed1520.specs.declared.bus.Record.{Record}
 use Rattle.sed1520.proofs.BytesSteps.{accepted}
 use Rattle.sed1520.proofs.Carried.{as-sent}
@@ -96,18 +96,17 @@ module _ {lines k : ℕ} {s : BytesAndRam} {trace buffer : List ℕ} {n : ℕ} {
         ∙ as-sent lines k (front (drop (4 * n) trace)) passes
         ∙ ap (λ (r : Record). sent lines k (r .byte)) (sym (front-at trace (4 * n)))
 
-    pub carried-on : {kind byte : ℕ} {next : BytesAndRam} → bytesStep t (sent lines k recorded) ≡ accepted (reply kind byte) next
-        → (one other : ℕ) → one ≡ if (isCompared kind) 1 0 → other ≡ if (isCompared kind && not (eqb byte recorded)) 1 0
-        → Upto lines k s trace buffer (n + 1) next (set (set answers (2 * n) kind) (2 * n + 1) byte) (compared + one) (differing + other)
+    pub carried-on : {a : Reply} {next : BytesAndRam} → bytesStep t (sent lines k recorded) ≡ accepted a next
+        → (one other : ℕ) → one ≡ if (isCompared (a .kind)) 1 0 → other ≡ if (isCompared (a .kind) && not (eqb (a .byte) recorded)) 1 0
+        → Upto lines k s trace buffer (n + 1) next (set (set answers (2 * n) (a .kind)) (2 * n + 1) (a .byte)) (compared + one) (differing + other)
     unfolding flatMap
-    carried-on {kind} {byte} {next} step one other one-is other-is =
+    carried-on {a} {next} step one other one-is other-is =
         let replies = upto .replies in
-        let a = reply kind byte in
         let there = within e in
         let ran = ran-more (carries lines k) (front []) bytesStep s rs (upto .ran) (omega (arith, all)) (rw (here there) passes) (rw (is, step)) in
         let two : 2 * (n + 1) ≡ 2 * n + 1 + 1 = omega arith in
-        let first = begun-byte (upto .written) kind (omega arith) in
-        let second = begun-byte first byte (omega arith) in
+        let first = begun-byte (upto .written) (a .kind) (omega arith) in
+        let second = begun-byte first (a .byte) (omega arith) in
         record {
           replies = replies ++ (a ∷ []);
           ran = rw (is, step) at ran;

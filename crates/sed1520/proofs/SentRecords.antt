@@ -15,17 +15,17 @@ use Rattle.sed1520.proofs.StepCases.{action-command, action-data-write,
 
 module _ (c : Chip) (ram : List ℕ) (fit : Fit c ram) (k : ℕ) (addressed : k < 2) where
   -- the cycle of a record whose lines ask for an action
-  pub action-cycle : (lines b : ℕ) → 2 ≤ lines → lines ≤ 5 → cycleOf (sent lines k b) c ram ≡ actionOf lines b c ram
+  pub action-cycle : (lines b : ℕ) → 2 ≤ lines → lines ≤ 5 → cycleOf (sent lines k b) c ram ≡ actionOf (sent lines k b) c ram
   action-cycle lines b low high =
       let r = sent lines k b in
       cycle-step r c ram (fit .bytes) (fit .range)
       ∙ step-action r c ram (not-refused r (omega arith) refl addressed (strobes-differ lines low high))
 
-  pub write-cycle : (b : ℕ) → cycleOf (sent 3 k b) c ram ≡ dataWrite b c ram
-  write-cycle b = action-cycle 3 b (omega arith) (omega arith) ∙ action-data-write 3 b c ram refl
+  pub write-cycle : (b : ℕ) → cycleOf (sent 3 k b) c ram ≡ dataWrite k b c ram
+  write-cycle b = action-cycle 3 b (omega arith) (omega arith) ∙ action-data-write (sent 3 k b) c ram refl
 
   pub read-cycle : (b : ℕ) → cycleOf (sent 5 k b) c ram ≡ outcome (dataRead c ram) ram
-  read-cycle b = action-cycle 5 b (omega arith) (omega arith) ∙ action-data-read 5 b c ram refl
+  read-cycle b = action-cycle 5 b (omega arith) (omega arith) ∙ action-data-read (sent 5 k b) c ram refl
 
   -- an accepted command of any opcode
   pub command-cycle : (kind : Opcode) (a : ℕ) → a < count kind → columnRefusal (first kind + a) (c .modify) ≡ 0
@@ -34,5 +34,5 @@ module _ (c : Chip) (ram : List ℕ) (fit : Fit c ram) (k : ℕ) (addressed : k 
       let b = first kind + a in
       let known = ap (λ (t : Coded Command). t .value) (decoded-argument kind a h) in
       action-cycle 2 b (omega arith) (omega arith)
-      ∙ action-command 2 b c ram refl
+      ∙ action-command (sent 2 k b) c ram refl
       ∙ ap (λ x. outcome x ram) (command-executed b c (record { opcode = kind; argument = a }) known free)

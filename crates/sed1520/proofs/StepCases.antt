@@ -18,20 +18,20 @@ use Rattle.sed1520.specs.declared.bus.Record.{Record}
 use Rattle.sed1520.specs.Promises.{EveryCycleSteps}
 
 -- the four values of the control lines that ask for an action
-module _ (lines b : ℕ) (c : Chip) (ram : List ℕ) where
-  pub action-command : lines ≡ 2 → actionOf lines b c ram ≡ outcome (commandWrite b c) ram
+module _ (r : Record) (c : Chip) (ram : List ℕ) where
+  pub action-command : r .lines ≡ 2 → actionOf r c ram ≡ outcome (commandWrite (r .byte) c) ram
   unfolding actionOf
   action-command h = rw h
 
-  pub action-data-write : lines ≡ 3 → actionOf lines b c ram ≡ dataWrite b c ram
+  pub action-data-write : r .lines ≡ 3 → actionOf r c ram ≡ dataWrite (r .chip) (r .byte) c ram
   unfolding actionOf
   action-data-write h = rw h
 
-  pub action-status : lines ≡ 4 → actionOf lines b c ram ≡ outcome (statusRead c) ram
+  pub action-status : r .lines ≡ 4 → actionOf r c ram ≡ outcome (statusRead c) ram
   unfolding actionOf
   action-status h = rw h
 
-  pub action-data-read : lines ≡ 5 → actionOf lines b c ram ≡ outcome (dataRead c ram) ram
+  pub action-data-read : r .lines ≡ 5 → actionOf r c ram ≡ outcome (dataRead c ram) ram
   unfolding actionOf
   action-data-read h = rw h
 
@@ -90,7 +90,7 @@ asks r e =
 
 module _ (r : Record) (c : Chip) (ram : List ℕ) where
   -- a bus record that is not refused, and one that is
-  pub step-action : busRefusal r ≡ 0 → stepOf r c ram ≡ actionOf (r .lines) (r .byte) c ram
+  pub step-action : busRefusal r ≡ 0 → stepOf r c ram ≡ actionOf r c ram
   unfolding stepOf
   step-action e = rw e
 

@@ -44,17 +44,19 @@ together-most (r ∷ rs) =
     let alike = carries (r .lines) (r .chip) in
     when (λ n. suc n ≤ suc (length rs)) (movesData (r .lines)) (λ _. omega (arith, leading-most alike r rs)) (λ _. omega arith)
 
--- the records that run together name one chip
-pub together-named : (r : Record) (rs : List Record) → Each (λ (q : Record). q .chip ≡ r .chip) (take (together (r ∷ rs)) (r ∷ rs))
-unfolding together
-together-named r rs = (
-  refl,
-  when (λ n. Each (λ (q : Record). q .chip ≡ r .chip) (take n rs)) (movesData (r .lines))
-      (λ _. each-leading (carries (r .lines) (r .chip)) _ (λ q e. named q e) rs) (λ _. tt),
-)
-  where
-    named : (q : Record) → carries (r .lines) (r .chip) q ≡ true → q .chip ≡ r .chip
-    named q e = eqb-true (q .chip) (r .chip) (both (eqb (q .chip) (r .chip)) _ (both (eqb (q .lines) (r .lines)) _ e .1) .0)
+-- the records that run together have the lines of the first and name its chip
+module _ (P : Record → Type 0) (r : Record) (alike : (q : Record) → q .lines ≡ r .lines → q .chip ≡ r .chip → P q) where
+  pub together-alike : (rs : List Record) → Each P (take (together (r ∷ rs)) (r ∷ rs))
+  unfolding together
+  together-alike rs = (
+    alike r refl refl,
+    when (λ n. Each P (take n rs)) (movesData (r .lines)) (λ _. each-leading (carries (r .lines) (r .chip)) P carried rs) (λ _. tt),
+  )
+    where
+      carried : (q : Record) → carries (r .lines) (r .chip) q ≡ true → P q
+      carried q e =
+          let lines = both (eqb (q .lines) (r .lines)) _ e in
+          alike q (eqb-true (q .lines) (r .lines) (lines .0)) (eqb-true (q .chip) (r .chip) (both (eqb (q .chip) (r .chip)) _ (lines .1) .0))
 
 -- a data record runs with those like it, any other alone
 module _ (r : Record) (rs : List Record) where

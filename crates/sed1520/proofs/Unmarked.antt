@@ -10,7 +10,7 @@ use Rattle.basics.specs.Choice.{if}
 use Rattle.basics.proofs.Tests.{both, either, when, when-both}
 use Rattle.sed1520.specs.Chip.{inRange, latched, readKind, staled}
 use Rattle.sed1520.specs.Command.{within}
-use Rattle.sed1520.specs.Cycle.{Reply, Outcome, outcome, answered, execute, dataWrite, afterRead, dataRead, statusByte, writeLine, cycleOf}
+use Rattle.sed1520.specs.Cycle.{replyOf, Outcome, outcome, answered, execute, dataWrite, afterRead, dataRead, statusByte, writeLine, cycleOf}
 use Rattle.sed1520.specs.LatchPromises.{unmarkedReply, setsPageOrWrites}
 use Rattle.sed1520.specs.declared.registers.Chip.{Chip}
 use Rattle.sed1520.specs.declared.registers.ReadLatch.{ReadLatch}
@@ -21,16 +21,12 @@ use Rattle.sed1520.specs.declared.bus.Record.{Record}
 use Rattle.sed1520.proofs.ActionCases.{data-write-stale}
 use Rattle.sed1520.proofs.EachWay.{each-cycle}
 
--- the reply that an outcome has
-abbrev pub asReply : Outcome → Reply
-asReply o = record { kind = o .answer .kind; byte = o .answer .byte }
-
 -- an outcome but for the mark that it leaves, and the one that it found
 abbrev pub unmarkedOutcome : Outcome → Outcome
 unmarkedOutcome o =
     let a = o .answer in
-    let kind = unmarkedReply (asReply o) .kind in
-    outcome (record { number = a .number; place = a .place; kind = kind; byte = a .byte; chip = staled (a .chip) }) (o .ram)
+    let kind = unmarkedReply (replyOf a) .kind in
+    outcome (record { number = a .number; place = a .place; kind = kind; byte = a .byte; stored = a .stored; chip = staled (a .chip) }) (o .ram)
 
 -- two outcomes that are the same but for these marks
 abbrev pub Same : Outcome → Outcome → Type 0
@@ -75,7 +71,7 @@ module _ (c : Chip) (ram : List ℕ) where
       (record {
         refused = λ n. refl;
         command = λ _ k a h. ap (doneWith 0 0) (executed-same k a c);
-        data-write = λ _ b. when-both Same (ltb (c .column) 80) _ refl (λ _. refl) (λ _. refl);
+        data-write = λ _. when-both Same (ltb (c .column) 80) _ refl (λ _. refl) (λ _. refl);
         status-read = λ _. refl;
         data-read = λ _. rw (data-kind (c .latch)) (ap (doneWith 2 (latched (c .latch))) read-same);
       })
@@ -104,7 +100,7 @@ module _ (c : Chip) where
       (record {
         refused = λ n. refl;
         command = λ _ k a h. executed-kept k a;
-        data-write = λ _ b. rw (data-write-stale c ram b);
+        data-write = λ _. rw (data-write-stale c ram (r .chip) (r .byte));
         status-read = λ _. refl;
         data-read = λ read. absurd (false≢true (rw read at write));
       })

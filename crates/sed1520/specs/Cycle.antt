@@ -16,13 +16,15 @@ use Rattle.sed1520.specs.Chip.{withDisplay, withStatic, withDuty, withRe
 use Rattle.sed1520.specs.Command.{first, decodeOf, within}
 use Rattle.basics.specs.Run.{Step}
 use Rattle.basics.specs.Table.{Cause, cause, unlessRefused}
-use Rattle.sed1520.specs.Memory.{ramLength, byteAt, byteSet}
+use Rattle.sed1520.specs.Memory.{ramLength, imageIndex, byteAt, byteSet}
 use Rattle.sed1520.specs.declared.registers.Chip.{Chip}
 use Rattle.sed1520.specs.declared.registers.ReadLatch.the-variants.{Fresh}
 use Rattle.sed1520.specs.declared.commands.Opcode.{Opcode}
 use Rattle.sed1520.specs.declared.commands.Opcode.the-variants.{Display, StartLine, Page, Column, Adc, Static, Duty, Modify, End, Reset}
 use Rattle.sed1520.specs.declared.commands.Command.{Command}
 use Rattle.sed1520.specs.declared.actions.Answer.{Answer}
+use Rattle.sed1520.specs.declared.actions.Stored.{Stored}
+use Rattle.sed1520.specs.declared.actions.Stored.the-variants.{At, Nothing}
 use Rattle.sed1520.specs.declared.bus.Record.{Record}
 
 -- A0, bit 0 of a record's control lines
@@ -37,13 +39,22 @@ readLine lines = lines / 2 % 2
 abbrev pub writeLine : ℕ → ℕ
 writeLine lines = lines / 4 % 2
 
--- the answer to a refused record: its number, place 0, kind 0, byte 0, the chip as it came
-abbrev pub refusal : ℕ → Chip → Answer
-refusal n c = record { number = n; place = 0; kind = 0; byte = 0; chip = c }
+-- which of the 640 RAM bytes a cycle says that it stored to (request C-16): the byte's index in the image of both chips, or none
+abbrev pub storedIndex : Stored → Option ℕ
+storedIndex (At i) = some i
+storedIndex Nothing = none
 
--- the answer to an accepted record: number 0, place 0, a kind and a byte, and the chip's successor
+-- the answer to a refused record: its number, place 0, kind 0, byte 0, nothing stored, the chip as it came
+abbrev pub refusal : ℕ → Chip → Answer
+refusal n c = record { number = n; place = 0; kind = 0; byte = 0; stored = Nothing; chip = c }
+
+-- the answer to an accepted record that stores nothing: number 0, place 0, a kind and a byte, and the chip's successor
 abbrev pub answered : ℕ → ℕ → Chip → Answer
-answered k b c = record { number = 0; place = 0; kind = k; byte = b; chip = c }
+answered k b c = record { number = 0; place = 0; kind = k; byte = b; stored = Nothing; chip = c }
+
+-- the answer to a data write that stores to a byte of the image: number 0, place 0, kind 0, byte 0, that byte's index and the chip's successor
+abbrev pub wroteTo : ℕ → Chip → Answer
+wroteTo i c = record { number = 0; place = 0; kind = 0; byte = 0; stored = At i; chip = c }
 
 -- what a cycle gives back, and the RAM afterwards
 pub record Outcome : Type 0 where
@@ -87,11 +98,11 @@ executed b (some m) c =
 unfoldable pub commandWrite : ℕ → Chip → Answer
 commandWrite b c = executed b (decodeOf b .value) c
 
--- a data write; by request C-12 it leaves the read latch stale, also at the column where counting stops
-unfoldable pub dataWrite : ℕ → Chip → List ℕ → Outcome
-dataWrite b c ram =
+-- a data write to the chip of a number; by request C-12 it leaves the read latch stale, also at the column where counting stops
+unfoldable pub dataWrite : ℕ → ℕ → Chip → List ℕ → Outcome
+dataWrite k b c ram =
     if (ltb (c .column) columnStop)
-    (outcome (answered 0 0 (staled (withColumn (c .column + 1) c))) (byteSet ram (c .page) (c .column) b))
+    (outcome (wroteTo (imageIndex k (c .page) (c .column)) (staled (withColumn (c .column + 1) c))) (byteSet ram (c .page) (c .column) b))
     (outcome (answered 0 0 (staled c)) ram)
 
 -- the chip after a data read
@@ -114,11 +125,11 @@ abbrev pub statusRead : Chip → Answer
 statusRead c = answered 3 (statusByte c) c
 
 -- the action that the control lines ask for: 2 writes a command, 3 writes data, 4 reads status, 5 reads data
-unfoldable pub actionOf : ℕ → ℕ → Chip → List ℕ → Outcome
-actionOf lines b c ram =
-    if (eqb (writeLine lines) 0)
-    (if (eqb (addressLine lines) 0) (outcome (commandWrite b c) ram) (dataWrite b c ram))
-    (if (eqb (addressLine lines) 0) (outcome (statusRead c) ram) (outcome (dataRead c ram) ram))
+unfoldable pub actionOf : Record → Chip → List ℕ → Outcome
+actionOf r c ram =
+    if (eqb (writeLine (r .lines)) 0)
+    (if (eqb (addressLine (r .lines)) 0) (outcome (commandWrite (r .byte) c) ram) (dataWrite (r .chip) (r .byte) c ram))
+    (if (eqb (addressLine (r .lines)) 0) (outcome (statusRead c) ram) (outcome (dataRead c ram) ram))
 
 -- numbers 4 to 6 of document 01's table, which a bus record is refused by whatever the chip holds
 abbrev pub busTable : Record → List Cause
@@ -135,7 +146,7 @@ busRefusal r = unlessRefused (busTable r) (λ n at. n) 0
 -- a cycle past numbers 1 and 2: numbers 4 to 6, then the action
 unfoldable pub stepOf : Record → Chip → List ℕ → Outcome
 stepOf r c ram =
-    if (eqb (busRefusal r) 0) (actionOf (r .lines) (r .byte) c ram) (outcome (refusal (busRefusal r) c) ram)
+    if (eqb (busRefusal r) 0) (actionOf r c ram) (outcome (refusal (busRefusal r) c) ram)
 
 -- numbers 1 and 2 of a cycle
 abbrev pub stateTable : Chip → List ℕ → List Cause
@@ -146,10 +157,15 @@ unfoldable pub cycleOf : Record → Chip → List ℕ → Outcome
 cycleOf r c ram = unlessRefused (stateTable c ram) (λ n at. outcome (refusal n c) ram) (stepOf r c ram)
 
 -- what an accepted record is answered, by kind: 0 a write, with byte 0; 1 a data read with a fresh latch, 2 one with a stale latch,
--- 3 status, with the byte read
+-- 3 status, with the byte read; and the index of the RAM byte that it stored to, if any
 pub record Reply : Type 0 where
   pub kind : ℕ
   pub byte : ℕ
+  pub stored : Option ℕ
+
+-- the reply that an answer has
+abbrev pub replyOf : Answer → Reply
+replyOf a = record { kind = a .kind; byte = a .byte; stored = storedIndex (a .stored) }
 
 -- a chip and its RAM
 pub record ChipAndRam : Type 0 where
@@ -158,7 +174,7 @@ pub record ChipAndRam : Type 0 where
 
 -- an outcome as a step of a run: its number, its reply and what it leads to
 abbrev pub asStep : {S : Type 0} → Outcome → S → Step S Reply
-asStep o next = record { number = o .answer .number; answer = record { kind = o .answer .kind; byte = o .answer .byte }; next = next }
+asStep o next = record { number = o .answer .number; answer = replyOf (o .answer); next = next }
 
 -- a record given to one chip
 abbrev pub chipStep : ChipAndRam → Record → Step ChipAndRam Reply

@@ -11,7 +11,7 @@ use Rattle.sed1520.specs.Command.{coded, notCoded, decodeOf}
 use Rattle.sed1520.specs.Memory.{ramLength, byteSet}
 use Rattle.sed1520.specs.Cycle.{Outcome, outcome, refusal, cycleOf, Reply, ChipAndRam, chipStep}
 use Rattle.sed1520.specs.Laws.{sent}
-use Rattle.sed1520.specs.Replies.{reply}
+use Rattle.sed1520.specs.Replies.{reply, writeReply}
 use Rattle.sed1520.specs.declared.registers.Chip.{Chip}
 use Rattle.sed1520.specs.declared.commands.Opcode.the-variants.{StartLine, Column}
 use Rattle.sed1520.specs.declared.bus.Record.{Record}
@@ -48,7 +48,7 @@ cycled s r = cycleOf r (s .chip) (s .ram)
 abbrev pub refused : ChipAndRam → ℕ → Outcome
 refused s n = outcome (refusal n (s .chip)) (s .ram)
 
--- the reply to a write
+-- the reply to a write that stores nothing
 abbrev pub wrote : Reply
 wrote = reply 0 0
 
@@ -74,12 +74,12 @@ cursor = command 10 ∷ command 0xE0 ∷ read ∷ read ∷ write 0xFF ∷ []
 
 -- the answers to P6's sequence: the first read has a stale latch, the second a fresh one
 abbrev pub cursorAnswers : List Reply
-cursorAnswers = wrote ∷ wrote ∷ reply 2 0 ∷ reply 1 0 ∷ wrote ∷ []
+cursorAnswers = wrote ∷ wrote ∷ reply 2 0 ∷ reply 1 0 ∷ writeReply 10 ∷ []
 
 -- the examples P1 to P4, P6, P7, P10 and P11
 pub record ChipExamples : Type 0 where
-  pub p1 : runFromFresh atLastColumn ≡ asRun 0 (wrote ∷ wrote ∷ []) (chipOver (withColumn 80 fresh) (byteSet blank 0 79 0xA5))
-  pub p2 : runFromFresh (atLastColumn ++ (write 0x3C ∷ [])) ≡ asRun 0 (wrote ∷ wrote ∷ wrote ∷ []) (runFromFresh atLastColumn .state)
+  pub p1 : runFromFresh atLastColumn ≡ asRun 0 (wrote ∷ writeReply 79 ∷ []) (chipOver (withColumn 80 fresh) (byteSet blank 0 79 0xA5))
+  pub p2 : runFromFresh (atLastColumn ++ (write 0x3C ∷ [])) ≡ asRun 0 (wrote ∷ writeReply 79 ∷ wrote ∷ []) (runFromFresh atLastColumn .state)
   pub p3 : (cycled start (command 100) ≡ refused start 14) × (decodeOf 100 ≡ coded (record { opcode = Column; argument = 100 }))
   pub p3-ends : runFromFresh (command 100 ∷ write 0xA5 ∷ []) ≡ asRun 14 [] start
   pub p4-fresh : runFromFresh (status ∷ []) ≡ asRun 0 (reply 3 0x60 ∷ []) start

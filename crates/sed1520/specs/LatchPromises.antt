@@ -61,7 +61,7 @@ FreshStands c ram = (b : ℕ) → c .latch ≡ Fresh b → Stands c ram b
 
 -- a reply with kind 1 taken for kind 2
 abbrev pub unmarkedReply : Reply → Reply
-unmarkedReply a = record { kind = if (eqb (a .kind) 1) 2 (a .kind); byte = a .byte }
+unmarkedReply a = record { kind = if (eqb (a .kind) 1) 2 (a .kind); byte = a .byte; stored = a .stored }
 
 -- whether a record is a page set or a data write
 abbrev pub setsPageOrWrites : Record → Bool

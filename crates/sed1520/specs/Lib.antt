@@ -11,4 +11,5 @@ pub mod Laws
 pub mod Promises
 pub mod LatchPromises
 pub mod ColumnPromises
+pub mod Stores
 pub mod Examples

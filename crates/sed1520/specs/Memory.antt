@@ -12,6 +12,10 @@ ramLength = 4 * columnStop
 unfoldable pub ramIndex : ℕ → ℕ → ℕ
 ramIndex page column = columnStop * page + column
 
+-- where that byte lies in the RAM image of both chips, 640 bytes of which chip 0 has the first 320
+abbrev pub imageIndex : ℕ → ℕ → ℕ → ℕ
+imageIndex chip page column = ramLength * chip + ramIndex page column
+
 -- the byte of a page and a column
 abbrev pub byteAt : List ℕ → ℕ → ℕ → ℕ
 byteAt ram page column = getD ram (ramIndex page column) 0

@@ -1,7 +1,8 @@
 -- What a run of records gives back and leaves: its replies as they stand in the answer buffer, and the counts over them.
 use Prim.Native.Nat.{ℕ, _+_, _*_}
-use mathlib.Core.Bool.{Bool, not, _&&_, _||_}
+use mathlib.Core.Bool.{Bool, false, not, _&&_, _||_}
 use mathlib.Core.List.{List, [], _∷_, _++_, flatMap}
+use mathlib.Core.Option.{Option, none, some}
 use lib.Dec.{eqb}
 use lib.ListN.{length, drop}
 use Rattle.basics.specs.Choice.{if}
@@ -25,9 +26,23 @@ differingIn [] rs = 0
 differingIn (a ∷ more) [] = 0
 differingIn (a ∷ more) (r ∷ rs) = if (isCompared (a .kind) && not (eqb (a .byte) (r .byte))) 1 0 + differingIn more rs
 
--- a reply from its kind and its byte
+-- whether what is said to be stored to is this byte of the image
+abbrev pub isByte : ℕ → Option ℕ → Bool
+isByte i none = false
+isByte i (some j) = eqb i j
+
+-- how many of some replies say that their record stored to a byte of the image (request C-16)
+unfoldable pub storesTo : ℕ → List Reply → ℕ
+storesTo i [] = 0
+storesTo i (a ∷ more) = if (isByte i (a .stored)) 1 0 + storesTo i more
+
+-- the reply to a record that stores nothing, from its kind and its byte
 abbrev pub reply : ℕ → ℕ → Reply
-reply kind byte = record { kind = kind; byte = byte }
+reply kind byte = record { kind = kind; byte = byte; stored = none }
+
+-- the reply to a data write that stores to a byte, from that byte's index
+abbrev pub writeReply : ℕ → Reply
+writeReply i = record { kind = 0; byte = 0; stored = some i }
 
 -- a reply as it stands in the answer buffer: kind, byte
 abbrev pub replyBytes : Reply → List ℕ

@@ -1,22 +1,31 @@
 // The four actions of a chip: a command write, a data write, a data read and a status read. Each hands the successor back.
 ghost use mathlib.Core.Path.{_≡_};
-ghost use Rattle.sed1520.specs.Cycle.{refusal, answered, outcome, columnRefusal, commandWrite, dataWrite};
+ghost use Rattle.sed1520.specs.Cycle.{refusal, answered, wroteTo, outcome, columnRefusal, commandWrite, dataWrite};
 ghost use Rattle.sed1520.specs.Cycle.{afterRead, dataRead, statusByte, statusRead};
 use crate::commands::Decoded;
 use crate::commands::Opcode;
 use crate::commands::decode;
+use crate::memory::image_index;
 use crate::memory::load;
 use crate::memory::store;
 use crate::registers::Chip;
 use crate::registers::ReadLatch;
 
-// What a cycle gives back beside the RAM: the number and its place, the answer's kind and byte, and the chip's
-// successor.
+// Which of the 640 RAM bytes of both chips a cycle stored to, if any, by its index: 320 x chip + 80 x page + column, the chip
+// by the record's number. A store of the byte that stands there already is a store.
+pub enum Stored {
+    At(usize),
+    Nothing,
+}
+
+// What a cycle gives back beside the RAM: the number and its place, the answer's kind and byte, the RAM byte stored to, and
+// the chip's successor.
 pub struct Answer {
     pub number: u8,
     pub place: u8,
     pub kind: u8,
     pub byte: u8,
+    pub stored: Stored,
     pub chip: Chip,
 }
 
@@ -30,11 +39,12 @@ impl Answer {
             place: 0,
             kind: 0,
             byte: 0,
+            stored: Stored::Nothing,
             chip,
         }
     }
 
-    // Done, with what a read answers and the successor.
+    // Done with nothing stored, with what a read answers and the successor.
     fn done(kind: u8, byte: u8, chip: Chip) -> Answer
         ensures { λ r. ⌜ r ≡ answered kind byte chip ⌝ }
     {
@@ -43,6 +53,21 @@ impl Answer {
             place: 0,
             kind,
             byte,
+            stored: Stored::Nothing,
+            chip,
+        }
+    }
+
+    // A data write that stored to a byte of the image, with the successor.
+    fn wrote_to(at: usize, chip: Chip) -> Answer
+        ensures { λ r. ⌜ r ≡ wroteTo at chip ⌝ }
+    {
+        Answer {
+            number: 0,
+            place: 0,
+            kind: 0,
+            byte: 0,
+            stored: Stored::At(at),
             chip,
         }
     }
@@ -81,9 +106,10 @@ impl Chip {
         Answer::done(0, 0, self.execute(command))
     }
 
-    // A data write. It leaves the latch stale at any column; from column 80 on nothing is stored.
-    pub(crate) fn data_write(self, byte: u8, ram: &mut [u8]) -> Answer
-        ensures { λ r. ⌜ outcome r (now (ram .exit)) ≡ dataWrite byte self (now (ram .entry)) ⌝ }
+    // A data write to this chip, which has a number. It leaves the latch stale at any column; from column 80 on nothing is
+    // stored.
+    pub(crate) fn data_write(self, number: u8, byte: u8, ram: &mut [u8]) -> Answer
+        ensures { λ r. ⌜ outcome r (now (ram .exit)) ≡ dataWrite number byte self (now (ram .entry)) ⌝ }
     {
         let mut next = self.staled();
         if Chip::COLUMN_STOP <= self.column {
@@ -91,7 +117,7 @@ impl Chip {
         }
         store(ram, self.page, self.column, byte);
         next.column = self.column + 1;
-        Answer::done(0, 0, next)
+        Answer::wrote_to(image_index(number, self.page, self.column), next)
     }
 
     // The chip after a data read: below column 80 the latch is loaded from the addressed byte and the column counted

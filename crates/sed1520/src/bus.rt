@@ -40,15 +40,16 @@ impl Record {
 }
 
 // The action that the control lines ask for.
-fn act(lines: u8, byte: u8, chip: Chip, ram: &mut [u8]) -> Answer
-    requires { ⌜ (2 ≤ lines) × (lines ≤ 5) ⌝ }
-    ensures { λ r. ⌜ outcome r (now (ram .exit)) ≡ actionOf lines byte chip (now (ram .entry)) ⌝ }
+fn act(bus: Record, chip: Chip, ram: &mut [u8]) -> Answer
+    requires { ⌜ (2 ≤ bus .lines) × (bus .lines ≤ 5) ⌝ }
+    ensures { λ r. ⌜ outcome r (now (ram .exit)) ≡ actionOf bus chip (now (ram .entry)) ⌝ }
 {
+    let lines = bus.lines;
     match lines {
-        3 => chip.data_write(byte, ram),
+        3 => chip.data_write(bus.chip, bus.byte, ram),
         4 => chip.status(),
         5 => chip.data_read(ram),
-        _ => chip.command(byte),
+        _ => chip.command(bus.byte),
     }
 }
 
@@ -66,5 +67,5 @@ pub fn cycle(bus: Record, chip: Chip, ram: &mut [u8]) -> Answer
     if number != 0 {
         return Answer::refused(number, chip);
     }
-    act(bus.lines, bus.byte, chip, ram)
+    act(bus, chip, ram)
 }

@@ -8,6 +8,7 @@ use lib.Seq.{length-take-le}
 use Rattle.basics.specs.Run.{asRun}
 use Rattle.basics.proofs.Run.{run-prefix, answers-bound, Next, run-next}
 use Rattle.panel.specs.Panel.{Panel, outcomeOf, stepped, panelStep, after}
+use Rattle.sed1520.specs.Cycle.{replyOf}
 use Rattle.sed1520.specs.Records.{front, wholeRecords}
 use Rattle.sed1520.proofs.Records.{records-length, record-at, records-prefix}
 use Rattle.trace.specs.Replay.{panelAfter, ended, replayOf}
@@ -66,7 +67,7 @@ module _ (p : Panel) (trace answers : List ℕ) (r : Replayable p trace answers)
     there = record-at (length trace / 4) k trace (front []) (omega (arith, recorded p trace answers r (suc k) l))
 
     answer : let a = outcomeOf (panelAfter (replayOf p (take (4 * k) trace) answers)) (front (drop (4 * k) trace)) .answer in
-        (a .number ≡ 0) × (take (suc k) (repliesTo p trace) ≡ take k (repliesTo p trace) ++ (record { kind = a .kind; byte = a .byte } ∷ []))
+        (a .number ≡ 0) × (take (suc k) (repliesTo p trace) ≡ take k (repliesTo p trace) ++ (replyOf a ∷ []))
     answer = rw (panel-then p trace answers r k h, ← there) (on-records .accepted, on-records .answer)
 
     next : panelAfter (replayOf p (take (4 * suc k) trace) answers)

@@ -8,7 +8,7 @@ use lib.Dec.{eqb}
 use lib.ListN.{length, take, drop}
 use Rattle.basics.specs.Choice.{if}
 use Rattle.basics.specs.Run.{Run, asRun}
-use Rattle.sed1520.specs.Cycle.{Reply}
+use Rattle.sed1520.specs.Cycle.{Reply, replyOf}
 use Rattle.panel.specs.Panel.{Panel, asPanel, outcomeOf, stepped, after, Whole}
 use Rattle.sed1520.specs.Records.{front, wholeRecords}
 use Rattle.sed1520.specs.declared.registers.Chip.{Chip}
@@ -136,7 +136,7 @@ FittingTaken =
 pub record EachRecord (p : Panel) (bytes : List ℕ) (k : ℕ) : Type 0 where
   pub cut : traceRun p (take (4 * k) bytes) ≡ asRun 0 (take k (repliesTo p bytes)) (after p (take k (wholeRecords bytes)))
   pub answer : k < length (repliesTo p bytes) → let a = outcomeOf (after p (take k (wholeRecords bytes))) (front (drop (4 * k) bytes)) .answer in
-      (a .number ≡ 0) × (take (suc k) (repliesTo p bytes) ≡ take k (repliesTo p bytes) ++ (record { kind = a .kind; byte = a .byte } ∷ []))
+      (a .number ≡ 0) × (take (suc k) (repliesTo p bytes) ≡ take k (repliesTo p bytes) ++ (replyOf a ∷ []))
   pub next : k < length (repliesTo p bytes)
       → after p (take (suc k) (wholeRecords bytes)) ≡ stepped (after p (take k (wholeRecords bytes))) (front (drop (4 * k) bytes))
 

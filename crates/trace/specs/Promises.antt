@@ -3,7 +3,7 @@ use Prim.Native.Nat.{ℕ, suc, _*_, _/_, _%_, _<_, _≤_}
 use mathlib.Core.Path.{_≡_}
 use mathlib.Core.List.{List, [], _∷_, _++_}
 use lib.ListN.{length, take, drop}
-use Rattle.sed1520.specs.Cycle.{Reply}
+use Rattle.sed1520.specs.Cycle.{Reply, replyOf}
 use Rattle.panel.specs.Panel.{Panel, outcomeOf, stepped, after, Whole}
 use Rattle.panel.specs.Trace.{traceLimit, traceRun}
 use Rattle.sed1520.specs.Records.{front, wholeRecords}
@@ -31,7 +31,7 @@ pub record AfterEach (p : Panel) (trace answers : List ℕ) (k : ℕ) : Type 0 w
   pub panel : panelAfter (replayOf p (take (4 * k) trace) answers) ≡ after p (take k (wholeRecords trace))
   pub answer : k < replayOf p trace answers .answer .place
       → let a = outcomeOf (panelAfter (replayOf p (take (4 * k) trace) answers)) (front (drop (4 * k) trace)) .answer in
-      (a .number ≡ 0) × (take (suc k) (repliesTo p trace) ≡ take k (repliesTo p trace) ++ (record { kind = a .kind; byte = a .byte } ∷ []))
+      (a .number ≡ 0) × (take (suc k) (repliesTo p trace) ≡ take k (repliesTo p trace) ++ (replyOf a ∷ []))
   pub next : k < replayOf p trace answers .answer .place
       → panelAfter (replayOf p (take (4 * suc k) trace) answers)
       ≡ stepped (panelAfter (replayOf p (take (4 * k) trace) answers)) (front (drop (4 * k) trace))

@@ -12,7 +12,7 @@ use borrow.Author.Tests.{eq-eqb, ne-eqb}
 use Rattle.basics.specs.Run.{asRun}
 use Rattle.basics.proofs.Run.{one-more, refused-next}
 use Rattle.sed1520.specs.Chip.{fresh}
-use Rattle.sed1520.specs.Cycle.{Reply, outcome, cycleOf}
+use Rattle.sed1520.specs.Cycle.{Reply, replyOf, outcome, cycleOf}
 use Rattle.sed1520.specs.Records.{front}
 use Rattle.sed1520.specs.declared.registers.Chip.{Chip}
 use Rattle.sed1520.specs.declared.actions.Answer.{Answer}
@@ -54,7 +54,7 @@ module _ {cases : List (List ℕ)} {ram : List ℕ} {c : Chip} {at : ℕ} (agree
       record {
         within = omega arith;
         image = image;
-        replies = agreed .replies ++ (record { kind = a .kind; byte = a .byte } ∷ []);
+        replies = agreed .replies ++ (replyOf a ∷ []);
         run = rw (add-one at, take-suc cases at [] more) (rw (← cycled) at added);
       }
 
