@@ -50,8 +50,8 @@ module _ (chips ram trace answers : List ℕ) where
   unfolding replayInPlace
   bytes-refused = first-refuses (λ n at. inPlace (nothingRun n at) chips ram answers) _ bytesTable
 
-  pub chips-refused : (length chips ≡ 24 → ⊥) → replayInPlace chips ram trace answers ≡ inPlace (nothingRun 1 0) chips ram answers
-  chips-refused h = bytes-refused 1 0 (inl (ap not (ne-eqb (length chips) 24 h), (refl, refl)))
+  pub chips-line : (length chips ≡ 24 → ⊥) → First bytesTable 1 0
+  chips-line h = inl (ap not (ne-eqb (length chips) 24 h), (refl, refl))
 
   pub bytes-passed : NoneHolds bytesTable
       → replayInPlace chips ram trace answers ≡ overBytes chips (endedBytes (panelIn chips ram) trace answers)
@@ -64,7 +64,7 @@ module _ (chips ram trace answers : List ℕ) where
 
   -- on 24 bytes it is the replay on the panel that is read from them, written back
   module _ (h : length chips ≡ 24) where
-    same-lines : lines ≡ table (panelIn chips ram) trace answers
+    pub same-lines : lines ≡ table (panelIn chips ram) trace answers
     same-lines = rw (left-passes chips h _ refl, right-passes chips h _ refl)
 
     on-panel : replayInPlace chips ram trace answers ≡ overBytes chips (replayOf (panelIn chips ram) trace answers)
@@ -81,9 +81,8 @@ module _ (chips ram trace answers : List ℕ) where
 
   -- code that computes the verdict of these lines first
   module _ (v : Verdict) (e : v ≡ verdictBy lines (verdict 0 0)) where
-    pub verdict-refused : length chips ≡ 24 → (v .number ≡ 0 → ⊥)
-        → replayInPlace chips ram trace answers ≡ inPlace (nothingRun (v .number) (v .place)) chips ram answers
-    verdict-refused h nonzero = bytes-refused (v .number) (v .place) (inr (ap not (eq-eqb (length chips) 24 h), refusing-line lines v 0 e nonzero))
+    pub verdict-line : length chips ≡ 24 → (v .number ≡ 0 → ⊥) → First bytesTable (v .number) (v .place)
+    verdict-line h nonzero = inr (ap not (eq-eqb (length chips) 24 h), refusing-line lines v 0 e nonzero)
 
     pub verdict-passed : v .number ≡ 0 → NoneHolds lines
     verdict-passed = passing-table lines v 0 e (λ z. omega arith, (λ z. omega arith, (λ z. omega arith, (λ z. omega arith, tt))))
@@ -98,9 +97,8 @@ module _ (chips ram trace answers : List ℕ) where
         image = sizes-right (length trace) (length trace / 4) (length ram) (length answers) (none .0) .image;
       }
 
-  pub lines-passed : length chips ≡ 24 → NoneHolds lines
-      → replayInPlace chips ram trace answers ≡ overBytes chips (endedBytes (panelIn chips ram) trace answers)
-  lines-passed h none = bytes-passed (ap not (eq-eqb (length chips) 24 h), none)
+  pub lines-passed : length chips ≡ 24 → NoneHolds lines → NoneHolds bytesTable
+  lines-passed h none = (ap not (eq-eqb (length chips) 24 h), none)
 
 pub replay-bytes-numbers : ReplayBytesNumbers
 unfolding replayInPlace

@@ -13,6 +13,9 @@ use Rattle.sed1520.proofs.Records.{front-there, whole-records-join}
 use Rattle.trace.specs.Replay.{endedAt, ended, endedBytes}
 use Rattle.sed1520.specs.Replies.{comparedIn, differingIn}
 use Rattle.trace.specs.Feed.{keeping, keptBytes, joinedTo, cutOff}
+use Rattle.panel.specs.Trace.{traceRun}
+use Rattle.trace.specs.Wear.{worn}
+use Rattle.trace.proofs.WearCounts.{worn-none}
 use Rattle.trace.specs.declared.progress.Ending.{Ending}
 use Rattle.trace.specs.declared.progress.Progress.{Progress}
 
@@ -56,6 +59,10 @@ no-record bytes h = let none : length bytes / 4 ≡ 0 = omega arith in rw none
 pub nothing-run : (p : Panel) (bytes answers : List ℕ) → length bytes < 4 → endedBytes p bytes answers ≡ endedAt 0 0 0 0 p answers
 unfolding ended runOf comparedIn differingIn flatMap
 nothing-run p bytes answers h = rw (no-record bytes h)
+
+pub none-stored : (wear : List ℕ) (p : Panel) (bytes : List ℕ) → length bytes < 4 → wear ≡ worn wear (traceRun p bytes .answers)
+unfolding runOf
+none-stored wear p bytes h = rw (no-record bytes h) (worn-none wear)
 
 -- fewer than four bytes are cut off
 pub cut-off-length : (bytes : List ℕ) → length (cutOff bytes) ≡ length bytes % 4

@@ -17,3 +17,7 @@ pub mod AnyCut
 pub mod EveryRun
 pub mod StoppedFeed
 pub mod RunNumbers
+pub mod WearCounts
+pub mod WearRuns
+pub mod WearCases
+pub mod WithWear

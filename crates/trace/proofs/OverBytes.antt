@@ -7,7 +7,10 @@ use mathlib.Core.List.{List, [], _++_, append-nil}
 use lib.ListN.{length, take, drop, length-drop, drop-of-length-le}
 use Rattle.panel.specs.Chips.{chipsBytes, panelIn, BothPass}
 use Rattle.panel.specs.Panel.{Whole}
-use Rattle.panel.specs.Panel.{Panel, panelRun}
+use Rattle.panel.specs.Panel.{Panel, panelStep, panelRun}
+use Rattle.basics.specs.Run.{Run}
+use Rattle.basics.proofs.Run.{run-join, run-cut}
+use Rattle.sed1520.specs.Cycle.{Reply}
 use Rattle.sed1520.specs.Records.{wholeRecords}
 use Rattle.sed1520.specs.declared.bus.Record.{Record}
 use Rattle.sed1520.specs.declared.registers.Chip.{Chip}
@@ -18,6 +21,9 @@ use Rattle.panel.proofs.TwoChips.{left-passes, right-passes, two-fit}
 use Rattle.sed1520.specs.declared.tally.Tally.{Tally}
 use Rattle.trace.specs.Replay.{ReplayOutcome, panelAfter, ended, endedBytes, rewritten, overBytes}
 use Rattle.sed1520.specs.Replies.{InPlace, inPlace, tally}
+use Rattle.panel.specs.Trace.{traceRun}
+use Rattle.trace.specs.Wear.{worn}
+use Rattle.trace.proofs.WearCounts.{worn-more}
 use Rattle.trace.proofs.InPlace.{panel-there}
 use Rattle.trace.proofs.Joined.{ended-all, ended-join, ended-cut}
 
@@ -61,6 +67,18 @@ module _ {chips ram : List ℕ} (fit : BothPass chips ram) where
 
       pub first-cut : (i .answer .number ≡ 0 → ⊥) → i ≡ overBytes chips (ended (panelRun (panelIn chips ram) (rs ++ qs)) (rs ++ qs) buffer)
       first-cut h = e ∙ ap (overBytes chips) (sym (ended-cut (panelIn chips ram) rs buffer qs (λ z. h (rw e z))))
+
+      pub cut-replies : (i .answer .number ≡ 0 → ⊥) → panelRun (panelIn chips ram) (rs ++ qs) .answers ≡ panelRun (panelIn chips ram) rs .answers
+      unfolding ended
+      cut-replies h = rw (run-cut panelStep (panelIn chips ram) rs qs (λ z. h (rw e z)))
+
+      pub both-replies : i .answer .number ≡ 0
+          → panelRun (panelIn chips ram) (rs ++ qs) .answers
+          ≡ panelRun (panelIn chips ram) rs .answers ++ panelRun (panelIn (i .lent .state) (i .lent .ram)) qs .answers
+      unfolding ended
+      both-replies done =
+          ap (λ (run : Run Panel Reply). run .answers) (run-join panelStep (panelIn chips ram) rs qs (rw e at done))
+          ∙ ap (λ (q : Panel). panelRun (panelIn chips ram) rs .answers ++ panelRun q qs .answers) (sym (over-panel first e))
 
       -- the second run, on what the first left and the answers behind its own
       pub both-run : (n : ℕ) → length rs ≡ n → i .answer .number ≡ 0 → (k : InPlace Tally)
@@ -107,3 +125,21 @@ module _ {chips ram : List ℕ} (fit : BothPass chips ram) (bytes more buffer : 
       let many : length (wholeRecords bytes) ≡ n = omega (arith, records-length (length bytes / 4) bytes) in
       let second = rw (rest answers₁ (2 * n)) at then in
       rw (past, append-nil, split) (both-run fit (wholeRecords bytes) (wholeRecords more) buffer _ e n many done _ second)
+
+  -- wear counted on by both
+  all-replies : traceRun (panelIn chips ram) (bytes ++ more) .answers
+      ≡ panelRun (panelIn chips ram) (wholeRecords bytes ++ wholeRecords more) .answers
+  all-replies = ap (λ (rs : List Record). panelRun (panelIn chips ram) rs .answers) split
+
+  pub worn-cut : (begun .number ≡ 0 → ⊥) → (wear : List ℕ) {wear₁ : List ℕ} → wear₁ ≡ worn wear (traceRun (panelIn chips ram) bytes .answers)
+      → wear₁ ≡ worn wear (traceRun (panelIn chips ram) (bytes ++ more) .answers)
+  worn-cut h wear w = w ∙ ap (worn wear) (sym (all-replies ∙ cut-replies fit (wholeRecords bytes) (wholeRecords more) buffer _ e h))
+
+  pub worn-both : begun .number ≡ 0 → (wear : List ℕ) {wear₁ wear₂ : List ℕ} → wear₁ ≡ worn wear (traceRun (panelIn chips ram) bytes .answers)
+      → wear₂ ≡ worn wear₁ (traceRun (panelIn chips₁ ram₁) more .answers)
+      → wear₂ ≡ worn wear (traceRun (panelIn chips ram) (bytes ++ more) .answers)
+  worn-both done wear first then =
+      then
+      ∙ ap (λ (w : List ℕ). worn w (traceRun (panelIn chips₁ ram₁) more .answers)) first
+      ∙ worn-more wear (traceRun (panelIn chips ram) bytes .answers) (traceRun (panelIn chips₁ ram₁) more .answers)
+      ∙ ap (worn wear) (sym (all-replies ∙ both-replies fit (wholeRecords bytes) (wholeRecords more) buffer _ e done))

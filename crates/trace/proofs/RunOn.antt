@@ -9,7 +9,10 @@ use lib.Seq.{take-all, drop-at, take-add, length-take-le}
 use Rattle.basics.specs.Run.{runOf}
 use Rattle.basics.proofs.Parts.{rest}
 use Rattle.panel.specs.Chips.{panelIn, BothPass}
-use Rattle.panel.specs.Panel.{Panel, panelRun}
+use Rattle.panel.specs.Panel.{Panel, panelStep, panelRun}
+use Rattle.panel.specs.Trace.{traceRun}
+use Rattle.basics.proofs.Run.{answers-bound}
+use Rattle.sed1520.specs.Cycle.{Reply}
 use Rattle.panel.specs.Step.{chipsStep, runChips}
 use Rattle.panel.proofs.RecordSteps.{every-records-run}
 use Rattle.sed1520.specs.BytesRun.{withRam, together}
@@ -22,8 +25,10 @@ use Rattle.sed1520.proofs.TogetherCases.{runs, together-some, together-most}
 use Rattle.trace.specs.Replay.{ReplayOutcome, endedAt, ended, endedBytes, overBytes}
 use Rattle.trace.proofs.Bounds.{Few, answered-few, answers-length}
 use Rattle.trace.proofs.InPlace.{over-bytes-at}
-use Rattle.trace.proofs.Joined.{ended-all, ended-cut}
-use Rattle.trace.proofs.OverBytes.{fits-after, both-run}
+use Rattle.trace.proofs.Joined.{ended-all}
+use Rattle.trace.proofs.OverBytes.{fits-after, first-cut, both-run, cut-replies, both-replies}
+use Rattle.trace.specs.Wear.{AtMost, worn, repliesTogether}
+use Rattle.trace.proofs.WearCounts.{worn-none, worn-more, worn-bound}
 
 -- what the first n of some records leave over chip bytes, on the panel that the bytes and the image say
 abbrev pub leftAfter : List ℕ → List ℕ → List Record → ℕ → List ℕ → InPlace Tally
@@ -52,22 +57,33 @@ records-past trace n h =
     let few : length (wholeRecords front) ≡ n = omega (arith, records-length (length front / 4) front) in
     sym (rw split (drop-at (wholeRecords front) (wholeRecords (drop (4 * n) trace)) n few))
 
-module _ (chips₀ ram₀ trace buffer : List ℕ) where
+-- the answers to the first n of some records, over chip bytes
+abbrev repliesOf : List ℕ → List ℕ → List Record → ℕ → List Reply
+repliesOf chips ram rs n = panelRun (panelIn chips ram) (take n rs) .answers
+
+module _ (chips₀ ram₀ trace buffer wear₀ : List ℕ) where
   abbrev records : List Record
   records = wholeRecords trace
 
-  -- n records have run
-  pub record RunOn (chips ram answers : List ℕ) (compared differing n : ℕ) : Type 0 where
+  -- n records have run, and what they stored to is counted
+  pub record RunOn (chips ram answers wear : List ℕ) (compared differing n : ℕ) : Type 0 where
     pub within : n ≤ length trace / 4
     pub fits : BothPass chips ram
     pub so-far : inPlace (tally 0 n compared differing) chips ram answers ≡ leftAfter chips₀ ram₀ records n buffer
+    pub so-worn : wear ≡ worn wear₀ (repliesOf chips₀ ram₀ records n)
 
-  pub none-run : BothPass chips₀ ram₀ → RunOn chips₀ ram₀ buffer 0 0 0
+  pub none-run : BothPass chips₀ ram₀ → RunOn chips₀ ram₀ buffer wear₀ 0 0 0
   unfolding ended runOf flatMap comparedIn differingIn
-  none-run fit = record { within = omega arith; fits = fit; so-far = over-bytes-at fit fit refl }
+  none-run fit =
+      record {
+        within = omega arith;
+        fits = fit;
+        so-far = over-bytes-at fit fit refl;
+        so-worn = worn-none wear₀;
+      }
 
-module _ {chips₀ ram₀ trace buffer chips ram answers : List ℕ} {compared differing n : ℕ} (fit : BothPass chips₀ ram₀)
-    (room : 2 * (length trace / 4) ≤ length buffer) (on : RunOn chips₀ ram₀ trace buffer chips ram answers compared differing n) where
+module _ {chips₀ ram₀ trace buffer wear₀ chips ram answers wear : List ℕ} {compared differing n : ℕ} (fit : BothPass chips₀ ram₀)
+    (room : 2 * (length trace / 4) ≤ length buffer) (on : RunOn chips₀ ram₀ trace buffer wear₀ chips ram answers wear compared differing n) where
   abbrev rs : List Record
   rs = wholeRecords trace
 
@@ -85,15 +101,26 @@ module _ {chips₀ ram₀ trace buffer chips ram answers : List ℕ} {compared d
       ap (λ (i : InPlace Tally). length (i .lent .answers)) (on .so-far)
       ∙ answers-length (panelIn chips₀ ram₀) (take n rs) buffer (omega (arith, taken, on .within))
 
+  -- there is room for one store more in each count
+  pub so-low : length trace ≤ 65536 → AtMost 65536 wear₀ → AtMost 4294967294 wear
+  so-low short low i =
+      let replies = repliesOf chips₀ ram₀ rs n in
+      let few = worn-bound 65536 wear₀ replies low i in
+      let many = answers-bound panelStep (take n rs) (panelIn chips₀ ram₀) in
+      rw (on .so-worn) (omega (arith, few, many, taken, on .within))
+
   -- none is left
   pub finished : length trace / 4 ≤ n
-      → inPlace (tally 0 n compared differing) chips ram answers ≡ overBytes chips₀ (endedBytes (panelIn chips₀ ram₀) trace buffer)
-  finished h = rw (take-all n rs (omega (arith, all))) at (on .so-far)
+      → (inPlace (tally 0 n compared differing) chips ram answers ≡ overBytes chips₀ (endedBytes (panelIn chips₀ ram₀) trace buffer))
+      × (wear ≡ worn wear₀ (traceRun (panelIn chips₀ ram₀) trace .answers))
+  finished h =
+      let whole = take-all n rs (omega (arith, all)) in
+      (rw whole at (on .so-far), on .so-worn ∙ ap (λ (qs : List Record). worn wear₀ (panelRun (panelIn chips₀ ram₀) qs .answers)) whole)
 
   -- the records that run together from here
-  module _ (more : n < length trace / 4) {went : Tally} {chips′ ram′ part : List ℕ}
-      (e : inPlace went chips′ ram′ part
-      ≡ runChips chips ram (take (length trace - 4 * n) (drop (4 * n) trace)) (take (length answers - 2 * n) (drop (2 * n) answers))) where
+  module _ (more : n < length trace / 4) {went : Tally} {chips′ ram′ part wear′ : List ℕ} (given : let bytes = take (length trace - 4 * n) (drop (4 * n) trace) in
+      (inPlace went chips′ ram′ part ≡ runChips chips ram bytes (take (length answers - 2 * n) (drop (2 * n) answers)))
+      × (wear′ ≡ worn wear (repliesTogether chips ram bytes))) where
     abbrev left : List Record
     left = drop n rs
 
@@ -111,7 +138,7 @@ module _ {chips₀ ram₀ trace buffer chips ram answers : List ℕ} {compared d
 
     ran : inPlace went chips′ ram′ part ≡ leftAfter chips ram left many (drop (2 * n) answers)
     ran =
-        let here = rw (rest trace (4 * n), rest answers (2 * n)) at e in
+        let here = rw (rest trace (4 * n), rest answers (2 * n)) at (given .0) in
         let space : 2 * (length (drop (4 * n) trace) / 4) ≤ length (drop (2 * n) answers) = simp length-drop (omega (arith, buffered)) in
         let together-here = run-together (on .fits) (drop (4 * n) trace) (drop (2 * n) answers) space in
         here ∙ (rw (records-past trace n (on .within)) at together-here)
@@ -120,6 +147,17 @@ module _ {chips₀ ram₀ trace buffer chips ram answers : List ℕ} {compared d
     joined =
         let past = drop-of-length-le (drop (2 * n) answers) {i = length answers - 2 * n} (simp length-drop (omega arith)) in
         rw (past, append-nil, take-add n many rs) (both-run fit (take n rs) (take many left) buffer _ (on .so-far) n taken refl _ ran)
+
+    -- and the wear counted on
+    worn-on : wear′ ≡ worn wear₀ (repliesOf chips₀ ram₀ rs (n + many))
+    worn-on =
+        let then = both-replies fit (take n rs) (take many left) buffer _ (on .so-far) refl in
+        given .1
+        ∙ ap (λ (bytes : List ℕ). worn wear (repliesTogether chips ram bytes)) (rest trace (4 * n))
+        ∙ ap (λ (qs : List Record). worn wear (repliesOf chips ram qs (together qs))) (records-past trace n (on .within))
+        ∙ ap (λ (w : List ℕ). worn w (repliesOf chips ram left many)) (on .so-worn)
+        ∙ worn-more wear₀ (repliesOf chips₀ ram₀ rs n) (repliesOf chips ram left many)
+        ∙ ap (worn wear₀) (sym (ap (λ (qs : List Record). panelRun (panelIn chips₀ ram₀) qs .answers) (take-add n many rs) ∙ then))
 
     pub still-buffered : length (behind .lent .answers) ≡ length buffer
     still-buffered =
@@ -151,17 +189,22 @@ module _ {chips₀ ram₀ trace buffer chips ram answers : List ℕ} {compared d
     some-ran done = omega (arith, answered done, together-some left (omega (arith, some-left)))
 
     pub goes-on : went .number ≡ 0
-        → RunOn chips₀ ram₀ trace buffer chips′ ram′ (behind .lent .answers) (compared + went .compared) (differing + went .differing)
+        → RunOn chips₀ ram₀ trace buffer wear₀ chips′ ram′ (behind .lent .answers) wear′ (compared + went .compared) (differing + went .differing)
         (n + went .place)
     goes-on done =
         record {
           within = omega (arith, answered done, together-most left, some-left);
           fits = fits-on;
           so-far = rw (done, ← answered done) at joined;
+          so-worn = rw (answered done) worn-on;
         }
 
-    pub stopped : (went .number ≡ 0 → ⊥) → behind ≡ overBytes chips₀ (endedBytes (panelIn chips₀ ram₀) trace buffer)
+    pub stopped : (went .number ≡ 0 → ⊥)
+        → (behind ≡ overBytes chips₀ (endedBytes (panelIn chips₀ ram₀) trace buffer))
+        × (wear′ ≡ worn wear₀ (traceRun (panelIn chips₀ ram₀) trace .answers))
     stopped h =
-        let cut = ended-cut (panelIn chips₀ ram₀) (take (n + many) rs) buffer (drop (n + many) rs)
-        (λ z. h (ap (λ (i : InPlace Tally). i .answer .number) joined ∙ z)) in
-        joined ∙ ap (overBytes chips₀) (sym (rw (take-append-drop (n + many) rs) at cut))
+        let whole = take-append-drop (n + many) rs in
+        let cut = first-cut fit (take (n + many) rs) (drop (n + many) rs) buffer _ joined h in
+        let same = cut-replies fit (take (n + many) rs) (drop (n + many) rs) buffer _ joined h in
+        let all-replies = ap (λ (qs : List Record). panelRun (panelIn chips₀ ram₀) qs .answers) (sym whole) ∙ same in
+        (rw whole at cut, worn-on ∙ ap (worn wear₀) (sym all-replies))

@@ -3,4 +3,5 @@ pub mod Promises
 pub mod Refusals
 pub mod Feed
 pub mod FeedInPlace
+pub mod Wear
 pub mod FeedPromises

@@ -4,21 +4,24 @@ ghost use Prim.Native.Nat.{_+_, _*_, _/_, _≤_};
 ghost use mathlib.Core.Path.{_≡_};
 ghost use mathlib.Core.List.{_++_};
 ghost use lib.ListN.{length};
-ghost use Rattle.panel.specs.Trace.{traceLimit};
+ghost use Rattle.panel.specs.Trace.{traceLimit, traceRun};
 ghost use Rattle.basics.specs.Choice.{if};
 ghost use Rattle.panel.specs.Chips.{chipsLength, panelIn, BothPass};
 ghost use Rattle.basics.specs.Verdict.{verdict};
 ghost use Rattle.trace.specs.Replay.{endedBytes, overBytes};
 ghost use Rattle.sed1520.specs.Replies.{inPlace};
 ghost use Rattle.trace.specs.Feed.{joinedTo, completedBy, tooMany, progressWrong, stateVerdict, partVerdict, fedWith};
-ghost use Rattle.trace.specs.Feed.{openOf, partOutcome, openPart, partOf, stoppedWith, openClose, closeOf};
+ghost use Rattle.trace.specs.Feed.{openOf, unlessStopped, partOutcome, openPart, stoppedWith, openClose, closeOf};
 ghost use Rattle.trace.specs.FeedInPlace.{fedInPlace, feedIn, partOverBytes, partInPlace};
+ghost use Rattle.trace.specs.Wear.{storesIn, withWear, partWithWear, openPartWear, partWear, AtMost, worn};
 use crate::progress::Ending;
 use crate::progress::Progress;
 use crate::run;
 use crate::sizes_wrong;
+use crate::wear::clear;
 use basics::verdict::Verdict;
 use panel::chips::CHIPS_BYTES;
+use panel::chips::IMAGE_BYTES;
 use panel::chips::chips_bytes;
 use panel::chips::chips_in;
 use sed1520::bus::RECORD_BYTES;
@@ -104,25 +107,30 @@ fn part_verdict(
     state_verdict(left_out, right_out, progress)
 }
 
-// The records that a part completes, the first of them with the bytes kept over.
+// The records that a part completes, the first of them with the bytes kept over, and what they store to counted from 0.
 fn run_part(
     chips: &mut [u8],
     progress: Progress,
     ram: &mut [u8],
     part: &[u8],
     answers: &mut [u8],
+    wear: &mut [u32],
 ) -> Tally
     requires { ⌜ BothPass (now chips) (now ram) ⌝ }
     requires { ⌜ progress .kept ≤ 3 ⌝ }
     requires { ⌜ length (now part) ≤ traceLimit ⌝ }
     requires { ⌜ 2 * completedBy (progress .kept) (length (now part)) ≤ length (now answers) ⌝ }
-    ensures { λ r. ⌜ inPlace r (now (chips .exit)) (now (ram .exit)) (now (answers .exit))
+    ensures ran { λ r. ⌜ inPlace r (now (chips .exit)) (now (ram .exit)) (now (answers .exit))
         ≡ overBytes (now (chips .entry))
         (endedBytes (panelIn (now (chips .entry)) (now (ram .entry))) (joinedTo progress (now (part .entry))) (now (answers .entry))) ⌝ }
+    ensures wear { λ _. ⌜ now (wear .exit)
+        ≡ storesIn (traceRun (panelIn (now (chips .entry)) (now (ram .entry))) (joinedTo progress (now (part .entry))) .answers)
+        (length (now (wear .entry))) ⌝ }
 {
+    clear(wear);
     let kept = progress.kept as usize;
     if kept == 0 {
-        return run(chips, ram, part, answers);
+        return run(chips, ram, part, answers, wear);
     }
     if kept + part.len() < RECORD_BYTES {
         return Tally::nothing_run(0, 0);
@@ -133,7 +141,14 @@ fn run_part(
         progress.byte_at(part, 2),
         progress.byte_at(part, 3),
     ];
-    run_both(chips, ram, &first, &part[RECORD_BYTES - kept..], answers)
+    run_both(
+        chips,
+        ram,
+        &first,
+        &part[RECORD_BYTES - kept..],
+        answers,
+        wear,
+    )
 }
 
 // A record and a trace behind it, as one trace.
@@ -143,20 +158,25 @@ fn run_both(
     first: &[u8],
     rest: &[u8],
     answers: &mut [u8],
+    wear: &mut [u32],
 ) -> Tally
     requires { ⌜ BothPass (now chips) (now ram) ⌝ }
     requires { ⌜ length (now first) ≡ 4 ⌝ }
     requires { ⌜ length (now rest) ≤ traceLimit ⌝ }
     requires { ⌜ 2 + 2 * (length (now rest) / 4) ≤ length (now answers) ⌝ }
-    ensures { λ r. ⌜ inPlace r (now (chips .exit)) (now (ram .exit)) (now (answers .exit))
+    requires { ⌜ AtMost 0 (now wear) ⌝ }
+    ensures ran { λ r. ⌜ inPlace r (now (chips .exit)) (now (ram .exit)) (now (answers .exit))
         ≡ overBytes (now (chips .entry))
         (endedBytes (panelIn (now (chips .entry)) (now (ram .entry))) (now (first .entry) ++ now (rest .entry)) (now (answers .entry))) ⌝ }
+    ensures wear { λ _. ⌜ now (wear .exit)
+        ≡ worn (now (wear .entry))
+        (traceRun (panelIn (now (chips .entry)) (now (ram .entry))) (now (first .entry) ++ now (rest .entry)) .answers) ⌝ }
 {
-    let begun = run(chips, ram, first, answers);
+    let begun = run(chips, ram, first, answers, wear);
     if begun.number != 0 {
         return begun;
     }
-    let next = run(chips, ram, rest, &mut answers[ANSWER_BYTES..]);
+    let next = run(chips, ram, rest, &mut answers[ANSWER_BYTES..], wear);
     Tally {
         number: next.number,
         place: begun.place + next.place,
@@ -177,6 +197,24 @@ pub fn part_in_place(
     ensures { λ r. ⌜ inPlace r (now (chips .exit)) (now (ram .exit)) (now (answers .exit))
         ≡ partInPlace (now (chips .entry)) progress (now (ram .entry)) (now (part .entry)) (now (answers .entry)) ⌝ }
 {
+    let mut none = [0u32; 0];
+    part_counting(chips, progress, ram, part, answers, &mut none)
+}
+
+// The same with what the part's records store to counted from 0, in wear of any length.
+fn part_counting(
+    chips: &mut [u8],
+    progress: Progress,
+    ram: &mut [u8],
+    part: &[u8],
+    answers: &mut [u8],
+    wear: &mut [u32],
+) -> FedInPlace
+    ensures ran { λ r. ⌜ inPlace r (now (chips .exit)) (now (ram .exit)) (now (answers .exit))
+        ≡ partInPlace (now (chips .entry)) progress (now (ram .entry)) (now (part .entry)) (now (answers .entry)) ⌝ }
+    ensures wear { λ _. ⌜ now (wear .exit)
+        ≡ partWear (now (chips .entry)) progress (now (ram .entry)) (now (part .entry)) (now (answers .entry)) (now (wear .entry)) ⌝ }
+{
     let ending = progress.ending;
     match ending {
         Ending::Stopped(number, place) => reported_in_place(progress, number, place as u64),
@@ -184,7 +222,7 @@ pub fn part_in_place(
             if chips.len() != CHIPS_BYTES {
                 return reported_in_place(progress, 1, 0);
             }
-            open_part(chips, progress, ram, part, answers)
+            open_part(chips, progress, ram, part, answers, wear)
         }
     }
 }
@@ -204,11 +242,14 @@ fn open_part(
     ram: &mut [u8],
     part: &[u8],
     answers: &mut [u8],
+    wear: &mut [u32],
 ) -> FedInPlace
     requires { ⌜ length (now chips) ≡ chipsLength ⌝ }
-    ensures { λ r. ⌜ inPlace r (now (chips .exit)) (now (ram .exit)) (now (answers .exit))
+    ensures ran { λ r. ⌜ inPlace r (now (chips .exit)) (now (ram .exit)) (now (answers .exit))
         ≡ partOverBytes (now (chips .entry))
         (openPart (feedIn (now (chips .entry)) progress) (now (ram .entry)) (now (part .entry)) (now (answers .entry))) ⌝ }
+    ensures wear { λ _. ⌜ now (wear .exit)
+        ≡ openPartWear (feedIn (now (chips .entry)) progress) (now (ram .entry)) (now (part .entry)) (now (answers .entry)) (now (wear .entry)) ⌝ }
 {
     let left_out = !bytes_pass(&chips[..CHIP_BYTES]);
     let right_out = !bytes_pass(&chips[CHIP_BYTES..]);
@@ -223,7 +264,7 @@ fn open_part(
     if verdict.number != 0 {
         return reported_in_place(progress, verdict.number, verdict.place);
     }
-    let tally = run_part(chips, progress, ram, part, answers);
+    let tally = run_part(chips, progress, ram, part, answers, wear);
     let next = progress.moved_on(part, tally);
     reported_in_place(next, tally.number, next.records as u64)
 }
@@ -251,16 +292,20 @@ impl Feed {
         reported(feed, 0, 0)
     }
 
-    // The next part of the trace, over the image of both chips: two answer bytes for each record that it completes.
-    pub fn part(self, ram: &mut [u8], part: &[u8], answers: &mut [u8]) -> Fed
-        ensures { λ r. ⌜ partOutcome r (now (ram .exit)) (now (answers .exit))
-            ≡ partOf self (now (ram .entry)) (now (part .entry)) (now (answers .entry)) ⌝ }
+    // The next part of the trace, over the image of both chips: two answer bytes for each record that it completes. It fills
+    // wear, 640 counts, from 0: how many of these records, accepted, stored to each byte of the image.
+    pub fn part(self, ram: &mut [u8], part: &[u8], answers: &mut [u8], wear: &mut [u32]) -> Fed
+        ensures { λ r. ⌜ withWear (partOutcome r (now (ram .exit)) (now (answers .exit))) (now (wear .exit))
+            ≡ partWithWear self (now (ram .entry)) (now (part .entry)) (now (answers .entry)) (now (wear .entry)) ⌝ }
     {
+        if wear.len() != IMAGE_BYTES {
+            return self.without_wear();
+        }
         let left = self.left;
         let right = self.right;
         let progress = self.progress;
         let mut chips = chips_bytes(left, right);
-        let went = part_in_place(&mut chips, progress, ram, part, answers);
+        let went = part_counting(&mut chips, progress, ram, part, answers, wear);
         let both = chips_in(&chips);
         let next_left = both.left;
         let next_right = both.right;
@@ -272,6 +317,18 @@ impl Feed {
             progress: next,
         };
         Fed { tally, feed }
+    }
+
+    // A part that comes with wear that is not 640 counts: a stopped feed repeats, an open one refuses by number 1.
+    fn without_wear(self) -> Fed
+        ensures { λ r. ⌜ r ≡ unlessStopped (self .progress .ending) (fedWith self) (fedWith self 1 0) ⌝ }
+    {
+        let progress = self.progress;
+        let ending = progress.ending;
+        match ending {
+            Ending::Stopped(number, place) => reported(self, number, place as u64),
+            Ending::Open => reported(self, 1, 0),
+        }
     }
 
     // The end of the trace: number 3 where bytes are kept over. The feed is then stopped.

@@ -3,19 +3,23 @@
 pub mod feed;
 pub mod held_feed;
 pub mod progress;
+mod wear;
 
 ghost use Prim.Native.Nat.{_*_, _/_, _≤_};
 ghost use mathlib.Core.Path.{_≡_};
 ghost use lib.ListN.{length};
-ghost use Rattle.panel.specs.Trace.{traceLimit};
+ghost use Rattle.panel.specs.Trace.{traceLimit, traceRun};
 ghost use Rattle.panel.specs.Chips.{panelIn, BothPass};
 ghost use Rattle.panel.specs.Panel.{asPanel};
 ghost use Rattle.sed1520.specs.Replies.{inPlace};
-ghost use Rattle.trace.specs.Replay.{replayOutcome, endedBytes, sizesWrong, replayOf, overBytes, replayInPlace};
+ghost use Rattle.trace.specs.Replay.{replayOutcome, endedBytes, sizesWrong, overBytes, replayInPlace};
+ghost use Rattle.trace.specs.Wear.{withWear, replayWithWear, replayWear, AtMost, worn};
+use crate::wear::clear;
+use crate::wear::run_counting;
 use panel::chips::CHIPS_BYTES;
+use panel::chips::IMAGE_BYTES;
 use panel::chips::chips_bytes;
 use panel::chips::chips_in;
-use panel::step::run_of_tested_chips;
 use panel::trace::trace_verdict;
 use sed1520::bus::RECORD_BYTES;
 use sed1520::chip_bytes::CHIP_BYTES;
@@ -35,25 +39,36 @@ pub struct Replayed {
     pub right: Chip,
 }
 
-// The records one after the other on chip bytes that number 2 lets pass, up to the first that is refused.
-pub(crate) fn run(chips: &mut [u8], ram: &mut [u8], trace: &[u8], answers: &mut [u8]) -> Tally
+// The records one after the other on chip bytes that number 2 lets pass, up to the first that is refused, with what they
+// store to counted on.
+pub(crate) fn run(
+    chips: &mut [u8],
+    ram: &mut [u8],
+    trace: &[u8],
+    answers: &mut [u8],
+    wear: &mut [u32],
+) -> Tally
     requires { ⌜ BothPass (now chips) (now ram) ⌝ }
     requires { ⌜ 2 * (length (now trace) / 4) ≤ length (now answers) ⌝ }
     requires { ⌜ length (now trace) ≤ traceLimit ⌝ }
-    ensures { λ r. ⌜ inPlace r (now (chips .exit)) (now (ram .exit)) (now (answers .exit))
+    requires { ⌜ AtMost traceLimit (now wear) ⌝ }
+    ensures ran { λ r. ⌜ inPlace r (now (chips .exit)) (now (ram .exit)) (now (answers .exit))
         ≡ overBytes (now (chips .entry))
         (endedBytes (panelIn (now (chips .entry)) (now (ram .entry))) (now (trace .entry)) (now (answers .entry))) ⌝ }
+    ensures wear { λ _. ⌜ now (wear .exit)
+        ≡ worn (now (wear .entry)) (traceRun (panelIn (now (chips .entry)) (now (ram .entry))) (now (trace .entry)) .answers) ⌝ }
 {
     let mut compared: u64 = 0;
     let mut differing: u64 = 0;
     let mut at = 0;
     let count = trace.len() / RECORD_BYTES;
     while at < count {
-        let went = run_of_tested_chips(
+        let went = run_counting(
             chips,
             ram,
             &trace[RECORD_BYTES * at..],
             &mut answers[ANSWER_BYTES * at..],
+            wear,
         );
         compared = compared + went.compared;
         differing = differing + went.differing;
@@ -81,6 +96,23 @@ pub fn replay_in_place(chips: &mut [u8], ram: &mut [u8], trace: &[u8], answers: 
     ensures { λ r. ⌜ inPlace r (now (chips .exit)) (now (ram .exit)) (now (answers .exit))
         ≡ replayInPlace (now (chips .entry)) (now (ram .entry)) (now (trace .entry)) (now (answers .entry)) ⌝ }
 {
+    let mut none = [0u32; 0];
+    replay_counting(chips, ram, trace, answers, &mut none)
+}
+
+// The same with what the records store to counted from 0, in wear of any length.
+fn replay_counting(
+    chips: &mut [u8],
+    ram: &mut [u8],
+    trace: &[u8],
+    answers: &mut [u8],
+    wear: &mut [u32],
+) -> Tally
+    ensures ran { λ r. ⌜ inPlace r (now (chips .exit)) (now (ram .exit)) (now (answers .exit))
+        ≡ replayInPlace (now (chips .entry)) (now (ram .entry)) (now (trace .entry)) (now (answers .entry)) ⌝ }
+    ensures wear { λ _. ⌜ now (wear .exit)
+        ≡ replayWear (now (chips .entry)) (now (ram .entry)) (now (trace .entry)) (now (answers .entry)) (now (wear .entry)) ⌝ }
+{
     if chips.len() != CHIPS_BYTES {
         return Tally::nothing_run(1, 0);
     }
@@ -96,16 +128,35 @@ pub fn replay_in_place(chips: &mut [u8], ram: &mut [u8], trace: &[u8], answers: 
     if verdict.number != 0 {
         return Tally::nothing_run(verdict.number, verdict.place);
     }
-    run(chips, ram, trace, answers)
+    clear(wear);
+    run(chips, ram, trace, answers, wear)
 }
 
-// The replay of a trace on two chips by value and the image of both, as over their bytes.
-pub fn replay(left: Chip, right: Chip, ram: &mut [u8], trace: &[u8], answers: &mut [u8]) -> Replayed
-    ensures { λ r. ⌜ replayOutcome r (now (ram .exit)) (now (answers .exit))
-        ≡ replayOf (asPanel left right (now (ram .entry))) (now (trace .entry)) (now (answers .entry)) ⌝ }
+// The replay of a trace on two chips by value and the image of both, as over their bytes. It fills wear, 640 counts, from 0:
+// how many of the records that were accepted stored to each byte of the image.
+pub fn replay(
+    left: Chip,
+    right: Chip,
+    ram: &mut [u8],
+    trace: &[u8],
+    answers: &mut [u8],
+    wear: &mut [u32],
+) -> Replayed
+    ensures { λ r. ⌜ withWear (replayOutcome r (now (ram .exit)) (now (answers .exit))) (now (wear .exit))
+        ≡ replayWithWear (asPanel left right (now (ram .entry))) (now (trace .entry)) (now (answers .entry)) (now (wear .entry)) ⌝ }
 {
+    if wear.len() != IMAGE_BYTES {
+        return Replayed {
+            number: 1,
+            place: 0,
+            compared: 0,
+            differing: 0,
+            left,
+            right,
+        };
+    }
     let mut chips = chips_bytes(left, right);
-    let tally = replay_in_place(&mut chips, ram, trace, answers);
+    let tally = replay_counting(&mut chips, ram, trace, answers, wear);
     let both = chips_in(&chips);
     let next_left = both.left;
     let next_right = both.right;

@@ -1,6 +1,6 @@
 -- `trace::feed::open_part` meets its contract: numbers 1, 13 and 2, then the records.
 use native.Mathlib.Omega.{arith}
-use mathlib.Core.Path.{_≡_, refl, sym, ap}
+use mathlib.Core.Path.{_≡_, refl, sym, ap, _∙_}
 use lib.ListN.{length}
 use lib.Seq.{length-take-le}
 use borrow.Author.Needs.{needs}
@@ -16,12 +16,13 @@ use Rattle.trace.proofs.FeedCases.{ofFeed, PartRight, part-right, part-
 use Rattle.trace.proofs.InPlace.{both-pass}
 use Rattle.trace.proofs.KeptOver.{joined-length}
 use Rattle.trace.proofs.PartCases.{not-taken, part-run}
+use Rattle.trace.proofs.WearCases.{open-kept, open-counted}
 use Rattle.trace.proofs.feed.open_part.Statement.{statement}
 use Rattle.trace.proofs.feed.open_part.Tie as tie
 
 -- the start, from past the tests; and the verdict that they gave
 abbrev start : tie.After-part-verdict → tie.Start
-start c = c .before .before .before .before .before .before .before .before .before .before
+start c = c .before .before .before .before .before .before .before .before .before .before .before
 
 reported : (c : tie.After-part-verdict) → let at = start c .args in
     c .part-verdict .result
@@ -36,7 +37,7 @@ reported c =
 
 -- the test, from past the records run
 abbrev test : tie.After-run-part → tie.Else1
-test c = c .before .before .before .before
+test c = c .before .before .before .before .before
 
 none : (c : tie.Else1) → let at = start (c .before .before) .args in
     NoneHolds (ofFeed partTable (feedIn (at .chips .now) (at .progress)) (length (at .ram .now)) (length (at .part .now)) (length (at .answers .now)))
@@ -50,11 +51,11 @@ returns : tie.Need-returns
 returns c =
     let verdict = c .before .before .before in
     let line = part-line _ _ _ _ _ (reported verdict) (c .before .if1 .taken) in
-    rw (c .reported-in-place .ensures) (not-taken _ _ _ _ _ (start verdict .pre) _ _ line)
+    (rw (c .reported-in-place .ensures) (not-taken _ _ _ _ _ (start verdict .pre) _ _ line), sym (open-kept _ _ _ _ _ _ _ line))
 
 run-part-requires : tie.Need-run-part-requires
 run-part-requires c κs =
-    let else = c .before .before .before in
+    let else = c .before .before .before .before in
     let right = passed else in (
       both-pass _ _ (start (else .before .before) .pre) (right .state .left) (right .state .right) (right .sizes .image),
       (right .state .few, (right .sizes .short, right .sizes .space)),
@@ -62,10 +63,10 @@ run-part-requires c κs =
 
 moved-on-requires : tie.Need-moved-on-requires
 moved-on-requires c κs =
-    let ran = c .before .before .before .before .before .before in
+    let ran = c .before .before .before .before .before .before .before .before in
     let right = passed (test ran) in
     let at = start (test ran .before .before) .args in
-    let few = tally-few _ _ _ (ap (λ (i : InPlace Tally). i .answer) (ran .run-part .ensures)) in
+    let few = tally-few _ _ _ (ap (λ (i : InPlace Tally). i .answer) (ran .run-part .ensures .0)) in
     let state = right .state in
     let bytes = joined-length (at .progress) (state .few) (at .part .now) in (
       state .few,
@@ -83,17 +84,19 @@ moved-on-requires c κs =
 
 returns-2 : tie.Need-returns-2
 returns-2 c =
-    let ran = c .before .before .before .before .before .before .before .before .before in
-    let verdict = test ran .before .before in
-    rw (c .reported-in-place2 .ensures)
-    (part-run _ _ _ _ _ (start verdict .pre) (none (test ran)) _ (ran .run-part .ensures) _ (c .before .before .moved-on .ensures))
+    let ran = c .before .before .before .before .before .before .before .before .before .before .before in
+    let verdict = test ran .before .before in (
+      rw (c .reported-in-place2 .ensures)
+          (part-run _ _ _ _ _ (start verdict .pre) (none (test ran)) _ (ran .run-part .ensures .0) _ (c .before .before .moved-on .ensures)),
+      ran .run-part .ensures .1 ∙ sym (open-counted _ _ _ _ _ (none (test ran))),
+    )
 
 pub open-part-spec : {M : Type 1} → statement M
 open-part-spec =
     tie.close
     (tie.spec
     (λ c. search needs)
-    (λ c. sym (length-take-le 12 (c .before .before .before .before .before .args .chips .now) (omega arith)))
+    (λ c. sym (length-take-le 12 (c .before .before .before .before .before .before .args .chips .now) (omega arith)))
     (λ c κs. search needs)
     (λ c. search needs)
     (λ c. search needs)
@@ -107,6 +110,7 @@ open-part-spec =
     moved-on-requires
     (λ c. search needs)
     (λ c κs. search needs)
+    (λ c. search needs)
     (λ c. search needs)
     (λ c. search needs)
     (λ c. search needs)
