@@ -16,8 +16,9 @@ use Rattle.panel.specs.Panel.{Panel}
 use Rattle.panel.specs.Trace.{traceRun}
 use Rattle.trace.specs.Replay.{ended}
 use Rattle.sed1520.specs.Replies.{repliesBytes}
-use Rattle.trace.specs.Feed.{stoppedWith, closeOf}
-use Rattle.trace.specs.FeedPromises.{Part, joinedBytes, feedAfter, fedAfter, Short, AtAnyCut, ClosesAfter, FeedsClose}
+use Rattle.trace.specs.Feed.{stoppedWith, openOf, closeOf}
+use Rattle.trace.specs.Promises.{Replayable}
+use Rattle.trace.specs.FeedPromises.{Part, joinedBytes, BuffersFit, Taken, feedAfter, fedAfter, Short, AtAnyCut, ClosesAfter, FeedsClose}
 use Rattle.trace.specs.declared.feed.Feed.{Feed}
 use Rattle.trace.proofs.FeedCases.{right-state, closes, close-passed}
 use Rattle.trace.proofs.EveryRun.{every-run}
@@ -89,14 +90,19 @@ module _ (p : Panel) (whole : Whole p) (trace : List ℕ) (size : length trace %
       (λ z. close-stopped (eqb-false (traceRun p trace .number) 0 z))
       (tested (eqb (traceRun p trace .number) 0))
 
+-- the parts of a trace that numbers 1 to 3 let pass are taken
+pub taken-whole : (p : Panel) (trace buffer : List ℕ) → Replayable p trace buffer → (xs : List Part) → joinedBytes xs ≡ trace → BuffersFit 0 xs
+    → Taken (openOf (p .left) (p .right) .feed) (p .ram) xs
+taken-whole p trace buffer r xs joined room =
+    fitting-taken p (r .panel) xs (short-parts xs (rw joined (r .size))) room (rw joined (omega (arith, r .size)))
+
 pub at-any-cut : AtAnyCut
 unfolding ended
 at-any-cut p trace buffer r xs joined room =
     let whole = r .panel in
     let run = traceRun p trace in
     let n = 2 * length (run .answers) in
-    let taken = fitting-taken p whole xs (short-parts xs (rw joined (r .size))) room (rw joined (omega (arith, r .size))) in
-    let end = rw joined at (feeds-run p whole xs taken) in
+    let end = rw joined at (feeds-run p whole xs (taken-whole p trace buffer r xs joined room)) in
     let end-closed = close-whole-trace p whole trace (r .whole) in
     let replayed = runs p trace buffer r in
     record {

@@ -26,6 +26,7 @@ use Rattle.trace.specs.Replay.{ended, endedBytes}
 use Rattle.sed1520.specs.Replies.{comparedIn, differingIn, replyBytes, repliesBytes, tally}
 use Rattle.trace.specs.Feed.{keeping, cutOff, joinedTo, completedBy, asFeed, partTable, PartOutcome, fedBy}
 use Rattle.trace.specs.Feed.{notTaken, movedOn, tookPart, partOf}
+use Rattle.trace.specs.Wear.{partReplies}
 use Rattle.trace.specs.FeedPromises.{Part, given, ownAnswers, refusesPart, feedAfter, fedAfter}
 use Rattle.trace.specs.declared.progress.Progress.{Progress}
 use Rattle.trace.specs.declared.progress.Ending.the-variants.{Open, Stopped}
@@ -61,7 +62,7 @@ module _ (p : Panel) (bytes : List ℕ) (x : Part) where
 
   -- a stopped feed
   module _ (refused : before .number ≡ 0 → ⊥) where
-    same-run : after ≡ before
+    pub same-run : after ≡ before
     same-run = rw (records-on bytes (x .bytes)) (run-cut panelStep p (wholeRecords bytes) (wholeRecords next) refused)
 
     stopped-part : given f (before .state .ram) x ≡ notTaken f (before .state .ram) (x .buffer) (before .number) (length (before .answers))
@@ -176,14 +177,26 @@ module _ (p : Panel) (bytes : List ℕ) (x : Part) where
       (λ z. takes-nothing (eqb-false (before .number) 0 z))
       (tested (eqb (before .number) 0))
 
-  pub takes : refusesPart (given (feedAfter before bytes) (before .state .ram) x .answer .number) ≡ false
-      → Takes (feedAfter before bytes) (before .state .ram) x before after (bytes ++ x .bytes)
+  pub passed : refusesPart (given (feedAfter before bytes) (before .state .ram) x .answer .number) ≡ false → before .number ≡ 0
+      → NoneHolds (ofFeed partTable (feedAfter before bytes) (length (before .state .ram)) (length (x .bytes)) (length (x .buffer)))
   unfolding f
-  takes h =
-      takes-if (λ done. ⊎-elim
+  passed h done =
+      ⊎-elim
       (λ first. absurd (true≢false (sym (refused-first done _ _ (first .1 .1)) ∙ h)))
       (λ none. subst Passes (sym (still-open done)) none)
-      (first-or-none (ofFeed partTable (g done) (length (before .state .ram)) (length (x .bytes)) (length (x .buffer)))))
+      (first-or-none (ofFeed partTable (g done) (length (before .state .ram)) (length (x .bytes)) (length (x .buffer))))
+
+  pub takes : refusesPart (given (feedAfter before bytes) (before .state .ram) x .answer .number) ≡ false
+      → Takes (feedAfter before bytes) (before .state .ram) x before after (bytes ++ x .bytes)
+  takes h = takes-if (passed h)
+
+  -- the answers of all are those before and then its own
+  pub replies-after : before .number ≡ 0 → after .answers ≡ before .answers ++ partReplies (feedAfter before bytes) (before .state .ram) (x .bytes)
+  unfolding f t
+  replies-after done =
+      let own = ap (λ (q : Feed). partReplies q (before .state .ram) (x .bytes)) (still-open done)
+      ∙ ap (λ (next : List ℕ). traceRun (before .state) next .answers) (joined-next done) in
+      ap (λ (r : Run Panel Reply). r .answers) (run-on done) ∙ ap (λ (more : List Reply). before .answers ++ more) (sym own)
 
 -- the feed after bytes is right, while it is open
 module _ (p : Panel) (whole : Whole p) (bytes : List ℕ) (done : traceRun p bytes .number ≡ 0) where

@@ -21,10 +21,10 @@ use Rattle.trace.proofs.RunNumbers.{own-number, run-number}
 
 module _ (p : Panel) where
   -- what a feed that took bytes holds and gave
-  abbrev fedAt : List ℕ → Fed
+  abbrev pub fedAt : List ℕ → Fed
   fedAt bytes = fedAfter (traceRun p bytes) bytes
 
-  abbrev imageAt : List ℕ → List ℕ
+  abbrev pub imageAt : List ℕ → List ℕ
   imageAt bytes = traceRun p bytes .state .ram
 
   abbrev answersAt : List ℕ → List ℕ
@@ -66,7 +66,7 @@ module _ (p : Panel) where
       rw (here .tally, here .feed, here .image) (own-number (traceRun p (bytes ++ x .bytes) .number) (run-number p whole (bytes ++ x .bytes)), rest)
 
   -- an opened feed took no bytes yet
-  opened : Whole p → openOf (p .left) (p .right) ≡ fedAt []
+  pub opened : Whole p → openOf (p .left) (p .right) ≡ fedAt []
   unfolding runOf pieces comparedIn differingIn
   opened whole =
       let f = asFeed (p .left) (p .right) (begun Open) in

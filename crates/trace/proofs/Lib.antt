@@ -21,3 +21,6 @@ pub mod WearCounts
 pub mod WearRuns
 pub mod WearCases
 pub mod WithWear
+pub mod WearRefusals
+pub mod WearSums
+pub mod WearFeeds

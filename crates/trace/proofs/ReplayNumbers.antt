@@ -50,10 +50,13 @@ module _ (p : Panel) (trace answers : List ℕ) where
   replay-passed = none-refuses (λ n at. refusedAt n at p answers) (endedBytes p trace answers) table
 
   -- none of numbers 1 to 3
-  pub runs : Replayable p trace answers → replayOf p trace answers ≡ endedBytes p trace answers
-  runs r =
+  pub passes : Replayable p trace answers → NoneHolds table
+  passes r =
       let sizes = right-sizes (length trace) (length trace / 4) (length (p .ram)) (length answers) (r .size) (r .panel .image) (r .space) in
-      replay-passed (sizes, (ap not (r .panel .left), (ap not (r .panel .right), (ap not (eq-eqb _ 0 (r .whole)), tt))))
+      (sizes, (ap not (r .panel .left), (ap not (r .panel .right), (ap not (eq-eqb _ 0 (r .whole)), tt))))
+
+  pub runs : Replayable p trace answers → replayOf p trace answers ≡ endedBytes p trace answers
+  runs r = replay-passed (passes r)
 
 pub replay-numbers : ReplayNumbers
 unfolding replayOf

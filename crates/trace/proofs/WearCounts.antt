@@ -10,9 +10,9 @@ use lib.ListN.{length, getD, set, replicate, length-set, length-replicate, getD-
 use lib.Seq.{getD-set-same, getD-set-other}
 use borrow.Author.Tests.{eqb-true, eqb-false, eq-eqb, ne-eqb, le-ltb, ltb-true, ltb-false}
 use Rattle.basics.specs.Choice.{if}
-use Rattle.basics.specs.Counts.{liesIn}
+use Rattle.basics.specs.Counts.{sumBelow, total, liesIn}
 use Rattle.basics.specs.Lists.{tabulated}
-use Rattle.basics.proofs.Counts.{lies-in-none, lies-last}
+use Rattle.basics.proofs.Counts.{lies-in-none, lies-last, total-tabulated}
 use Rattle.basics.proofs.Lists.{tabulated-is, tabulated-same, tabulated-length, tabulated-at}
 use Rattle.basics.proofs.Tests.{tested}
 use Rattle.sed1520.specs.Cycle.{Reply}
@@ -92,6 +92,15 @@ worn-cleared n answers =
     let size : length zeros ≡ n = length-replicate n 0 in
     tabulated-is _ 0 n (worn zeros answers) (worn-length zeros answers ∙ size)
     (λ i h. worn-at zeros answers i (omega (arith, size)) ∙ omega (arith, getD-replicate {A = ℕ} n i 0 0 h))
+
+-- each count of a run's wear, and their sum
+pub stores-at : (answers : List Reply) (n i : ℕ) → i < n → getD (storesIn answers n) i 0 ≡ storesTo i answers
+unfolding storesIn
+stores-at answers n i h = let e : 0 + i ≡ i = omega arith in rw e at (tabulated-at (λ i. storesTo i answers) 0 n i 0 h)
+
+pub stores-total : (answers : List Reply) (n : ℕ) → total (storesIn answers n) ≡ sumBelow (λ i. storesTo i answers) n
+unfolding storesIn
+stores-total answers n = total-tabulated (λ i. storesTo i answers) n
 
 pub none-counted : (n : ℕ) → AtMost 0 (replicate n 0)
 none-counted n i =

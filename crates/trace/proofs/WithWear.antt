@@ -15,7 +15,7 @@ use Rattle.sed1520.specs.declared.registers.Chip.{Chip}
 use Rattle.trace.specs.Replay.{ReplayOutcome, refusedAt, endedBytes, replayOf}
 use Rattle.trace.specs.Feed.{asFeed, joinedTo, partTable, unlessStopped, PartOutcome, notTaken, tookPart, openPart, partOf}
 use Rattle.trace.specs.FeedInPlace.{feedIn}
-use Rattle.trace.specs.Wear.{storesIn, wearOf, WithWear, withWear, replayWithWear, partReplies, partWithWear, replayWear, openPartWear, partWear}
+use Rattle.trace.specs.Wear.{storesIn, wearOf, WithWear, withWear, replayWithWear, partReplies, partWearTable, partWithWear, replayWear, openPartWear, partWear}
 use Rattle.trace.specs.declared.progress.Ending.{Ending}
 use Rattle.trace.specs.declared.progress.Ending.the-variants.{Open, Stopped}
 use Rattle.trace.specs.declared.progress.Progress.{Progress}
@@ -31,19 +31,19 @@ both-left {o′ = o′} {wear = wear} e w = ap (λ o. withWear o wear) e ∙ ap 
 -- the replay
 module _ (p : Panel) (trace answers wear : List ℕ) where
   -- the wear that it leaves
-  abbrev pub wearLeft : List ℕ
-  wearLeft = unlessRefused (table p trace answers) (λ n at. wear) (wearOf (traceRun p trace .answers))
+  abbrev pub replayLeaves : List ℕ
+  replayLeaves = unlessRefused (table p trace answers) (λ n at. wear) (wearOf (traceRun p trace .answers))
 
   pub wear-refused : (length wear ≡ 640 → ⊥) → replayWithWear p trace answers wear ≡ withWear (refusedAt 1 0 p answers) wear
   unfolding replayWithWear
   wear-refused h = rw (ne-eqb (length wear) 640 h)
 
-  pub with-wear : length wear ≡ 640 → replayWithWear p trace answers wear ≡ withWear (replayOf p trace answers) wearLeft
+  pub with-wear : length wear ≡ 640 → replayWithWear p trace answers wear ≡ withWear (replayOf p trace answers) replayLeaves
   unfolding replayWithWear replayOf
   with-wear h = rw (eq-eqb (length wear) 640 h) (table-both withWear (table p trace answers) (λ n at. refusedAt n at p answers) _ (λ n at. wear) _)
 
 pub wear-over-bytes : (left right : Chip) (ram trace answers wear : List ℕ) → length wear ≡ 640
-    → replayWear (chipsBytes left right) ram trace answers wear ≡ wearLeft (asPanel left right ram) trace answers wear
+    → replayWear (chipsBytes left right) ram trace answers wear ≡ replayLeaves (asPanel left right ram) trace answers wear
 unfolding replayWear
 wear-over-bytes left right ram trace answers wear h =
     let chips = chipsBytes left right in
@@ -51,13 +51,31 @@ wear-over-bytes left right ram trace answers wear h =
     let on = panel-there left right ram in
     rw (eq-eqb (length chips) 24 size, h)
     (ap (λ (t : List Cause). unlessRefused t (λ n at. wear) (wearOf (traceRun (panelIn chips ram) trace .answers))) (same-lines chips ram trace answers size)
-    ∙ ap (λ (q : Panel). wearLeft q trace answers wear) on)
+    ∙ ap (λ (q : Panel). replayLeaves q trace answers wear) on)
 
 -- a part of a feed
 module _ (f : Feed) (ram part answers wear : List ℕ) where
   -- the wear that it leaves
-  abbrev pub partWearLeft : List ℕ
-  partWearLeft = unlessStopped (f .progress .ending) (λ n at. wear) (openPartWear f ram part answers wear)
+  abbrev pub partLeaves : List ℕ
+  partLeaves = unlessStopped (f .progress .ending) (λ n at. wear) (openPartWear f ram part answers wear)
+
+  -- what it comes to where the feed is open
+  abbrev pub openLeaves : WithWear PartOutcome
+  openLeaves =
+      let bytes = joinedTo (f .progress) part in
+      unlessRefused (partWearTable f ram part answers wear) (λ n at. withWear (notTaken f ram answers n at) wear)
+      (withWear (tookPart f bytes (endedBytes (asPanel (f .left) (f .right) ram) bytes answers)) (wearOf (partReplies f ram part)))
+
+  by-its-ending : {e : Ending} → f .progress .ending ≡ e
+      → partWithWear f ram part answers wear ≡ unlessStopped e (λ n at. withWear (notTaken f ram answers n at) wear) openLeaves
+  unfolding partWithWear
+  by-its-ending is = ap (λ (e : Ending). unlessStopped e (λ n at. withWear (notTaken f ram answers n at) wear) openLeaves) is
+
+  pub part-stopped : (n at : ℕ) → f .progress .ending ≡ Stopped n at → partWithWear f ram part answers wear ≡ withWear (notTaken f ram answers n at) wear
+  part-stopped n at = by-its-ending
+
+  pub part-open : f .progress .ending ≡ Open → partWithWear f ram part answers wear ≡ openLeaves
+  part-open = by-its-ending
 
   pub part-wear-refused : (length wear ≡ 640 → ⊥)
       → partWithWear f ram part answers wear ≡ withWear (unlessStopped (f .progress .ending) (notTaken f ram answers) (notTaken f ram answers 1 0)) wear
@@ -69,7 +87,7 @@ module _ (f : Feed) (ram part answers wear : List ℕ) where
       stop Open = refl
       stop (Stopped n at) = refl
 
-  pub part-with-wear : length wear ≡ 640 → partWithWear f ram part answers wear ≡ withWear (partOf f ram part answers) partWearLeft
+  pub part-with-wear : length wear ≡ 640 → partWithWear f ram part answers wear ≡ withWear (partOf f ram part answers) partLeaves
   unfolding partWithWear partOf openPart openPartWear
   part-with-wear h = rw (eq-eqb (length wear) 640 h, h) (stop (f .progress .ending))
     where
@@ -91,7 +109,7 @@ module _ (f : Feed) (ram part answers wear : List ℕ) where
       stop (Stopped n at) = refl
 
 pub part-wear-over-bytes : (left right : Chip) (t : Progress) (ram part answers wear : List ℕ)
-    → partWear (chipsBytes left right) t ram part answers wear ≡ partWearLeft (asFeed left right t) ram part answers wear
+    → partWear (chipsBytes left right) t ram part answers wear ≡ partLeaves (asFeed left right t) ram part answers wear
 unfolding partWear
 part-wear-over-bytes left right t ram part answers wear =
     rw (eq-eqb (length (chipsBytes left right)) 24 (two-length left right))

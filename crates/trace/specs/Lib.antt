@@ -5,3 +5,4 @@ pub mod Feed
 pub mod FeedInPlace
 pub mod Wear
 pub mod FeedPromises
+pub mod WearPromises
