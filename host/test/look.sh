@@ -7,14 +7,6 @@ tests=$(dirname "$0")
 example=$tests/../../examples/name.trace new_name=$tests/../../examples/name.pbm
 . "$tests/runs.sh"
 
-on_terminal() { # COLUMNS KEYS ARGUMENTS...: as run, on a terminal; the line ends are a file's
-    wide=$1 typed=$2
-    shift 2
-    "$tests/terminal.py" "$wide" "$typed" "$show" "$@" >"$work/screen" 2>"$work/err"
-    status=$?
-    sed "s/$(printf '\033')\\[[HJ]//g" "$work/screen" | tr -d '\r' >"$work/out"
-}
-
 # ---- forms ----
 
 "$show" "$example" --pbm "$pbm" >/dev/null
@@ -159,13 +151,6 @@ done
 cp "$new_name" "$picture"
 ln -sf t.trace "$work/link"
 ln -f "$t" "$work/hard"
-kept() { # LABEL FILE ARGUMENTS...: the file is named as an output and not written over
-    name="over $1" file=$2
-    shift 2
-    cp "$file" "$work/was"
-    refused "$name" 1 "$file: is read or written already, and not written over" "$@"
-    check "$name: written over" cmp -s "$file" "$work/was"
-}
 for output in --pbm --save; do
     for file in "$t" "$work/link" "$work/hard" "$work/../$(basename "$work")/t.trace"; do
         kept "the trace, $output $file" "$file" "$t" $output "$file"

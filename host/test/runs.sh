@@ -21,6 +21,14 @@ repeated() { # N TEXT
 status_reads() { # BYTES: that many bytes of valid records, the last one perhaps cut short
     repeated 20000 abcb | tr abc '\004\000\140' | head -c "$1"
 }
+slowly() { # FILE SIZE: prints it in pieces of that size, with a pause after each
+    piece=0 pieces=$((($(wc -c <"$1") + $2 - 1) / $2))
+    while [ "$piece" -lt "$pieces" ]; do
+        dd if="$1" bs="$2" skip="$piece" count=1 2>/dev/null
+        sleep 0.005
+        piece=$((piece + 1))
+    done
+}
 
 hex_rows() { # "N ROW"...: prints the row N times, then the next one, a line each
     for rows in "$@"; do
@@ -55,6 +63,13 @@ piped() { # ARGUMENTS...: as run, at the end of a pipe, where a variable does no
     run "$@"
     echo "$status" >"$work/status"
 }
+on_terminal() { # COLUMNS KEYS ARGUMENTS...: as run, on a terminal; the line ends are a file's
+    wide=$1 typed=$2
+    shift 2
+    "$(dirname "$0")/terminal.py" "$wide" "$typed" "$show" "$@" >"$work/screen" 2>"$work/err"
+    status=$?
+    sed "s/$(printf '\033')\\[[HJ]//g" "$work/screen" | tr -d '\r' >"$work/out"
+}
 done_with() { # LABEL STATUS MESSAGE: how the last run ended
     check "$1: status $status" same "$status" "$2"
     check "$1: says '$(cat "$work/err")'" same "$(cat "$work/err")" "$3"
@@ -67,6 +82,13 @@ refused() { # LABEL STATUS MESSAGE ARGUMENTS...: this message, this status, noth
     check "$name: status $status" same "$status" "$want"
     check "$name: says '$(cat "$work/err")'" same "$(cat "$work/err")" "$message"
     check "$name: shows something" [ ! -s "$work/out" ]
+}
+kept() { # LABEL FILE ARGUMENTS...: the file is named as an output and not written over
+    name="over $1" file=$2
+    shift 2
+    cp "$file" "$work/was"
+    refused "$name" 1 "$file: is read or written already, and not written over" "$@"
+    check "$name: written over" cmp -s "$file" "$work/was"
 }
 text_of() { # PBM: the text that show must print for it
     tail -c 512 "$1" | od -An -v -tu1 | awk '

@@ -253,14 +253,6 @@ live_wanted() { # NUMBER RECORDS: prints what show --live must print for $t: eac
     counts=$("$listing" <"$work/taken" | tail -n 1 | awk '{ print "records taken: " $3 ", reads compared: " $4 ", differing: " $5 }')
     if [ "$1" = 0 ]; then echo "end: number 0, done, place $2; $counts"; else echo "end: number $1, refused, place $2; $counts"; fi
 }
-slowly() { # FILE SIZE: prints it in pieces of that size, with a pause after each
-    piece=0 pieces=$((($(wc -c <"$1") + $2 - 1) / $2))
-    while [ "$piece" -lt "$pieces" ]; do
-        dd if="$1" bs="$2" skip="$piece" count=1 2>/dev/null
-        sleep 0.005
-        piece=$((piece + 1))
-    done
-}
 pictures() { grep -c └ "$work/out"; } # how many whole ones the last run has drawn
 ended() { # LABEL STATUS MESSAGE: how the last run ended, and that it printed what is wanted
     check "$1: status $status" same "$status" "$2"
