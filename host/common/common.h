@@ -113,7 +113,7 @@ bool is_open(const struct run *run);
 /* Sends any number of bytes; false where a record is refused. */
 bool send_bytes(struct run *run, const uint8_t *bytes, size_t length);
 
-/* Ends it; false where it ends inside a record. */
+/* Ends it where it is open; false where it was refused, or ends inside a record. */
 bool end_run(struct run *run);
 
 /* Ends it where it is open, and prints number, place and counts as a line; false where it was refused, too. */

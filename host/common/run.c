@@ -122,7 +122,8 @@ static void close_run(struct run *run)
 
 bool end_run(struct run *run)
 {
-    close_run(run);
+    if (is_open(run))
+        close_run(run);
     return is_open(run) || refused(run);
 }
 

@@ -76,12 +76,12 @@ bool choose_form(const char *name)
     return true;
 }
 
-/* ---- the frame as text ---- */
-
-static bool in_ascii(void)
+bool in_ascii(void)
 {
     return form == ASCII || form == HALVES;
 }
+
+/* ---- the frame as text ---- */
 
 static void print_edge(const char *left, const char *right, unsigned width)
 {

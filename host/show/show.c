@@ -1,9 +1,11 @@
 /*
  * show: what the panel shows after a trace, or within a repaint that follows it, as text and as PBM; or
- * when that changed (changes.c, pages.c), or after every record (every.c), or while records come (live.c).
+ * when that changed (changes.c, pages.c), or after every record (every.c), or while records come (live.c);
+ * or which cells of RAM wear (wear.c).
  *
  * The trace is sent first, or as much of it as --at says; with --repaint, then the repaint. Nothing is
- * shown or written unless all of that is accepted. What is to be gone through again is kept meanwhile.
+ * shown or written unless all of that is accepted, but with --wear the counts before a refused record.
+ * What is to be gone through again is kept meanwhile.
  */
 #include "show.h"
 
@@ -47,8 +49,10 @@ const char usage[] =
     "                     after the other, on a terminal each over the last; with\n"
     "                     --changes, after those that changed it; with --repaint,\n"
     "                     within the repaint\n"
-    "  --delay MS         with --every: milliseconds between two on a terminal, 40\n"
-    "                     if not given\n"
+    "  --delay MS         with --every: milliseconds between two on a terminal (40)\n"
+    "  --wear             how often each RAM cell was stored to: for each chip four\n"
+    "                     pages of 80 columns, shaded; the ten most written cells;\n"
+    "                     the sum. With --repaint, by the repaint alone\n"
     "  --form FORM        blocks or ascii (124 columns; a character is two pixels,\n"
     "                     in ascii # for both, ' for the upper, . for the lower) or\n"
     "                     braille (63 columns; two by four pixels); if not given,\n"
@@ -63,20 +67,20 @@ const char usage[] =
     "                     none is listed one of the panel as it is; with --every,\n"
     "                     instead of the text, a file for each: name.pbm becomes\n"
     "                     name-000000.pbm and so on, the number as --at takes it\n"
+    "  --pgm FILE         with --wear: the counts as a binary PGM (P5) of 80 by 8, a\n"
+    "                     row for each page; the highest is white\n"
     "  --save FILE        the chips and RAM as they are at the end\n"
     "  --records FILE     with --repaint: the records of it that are sent, a trace\n"
     "A file that is read is not written over. Nothing is shown or written of a trace\n"
-    "that is refused, but with --live what came before it. --at N shows the panel\n"
-    "before record N; the program text, or pedralume-text, prints each record, and\n"
-    "can go on past a refused one.\n"
+    "that is refused, but with --live or --wear what came before it. --at N shows\n"
+    "the panel before record N; the program text, or pedralume-text, prints each\n"
+    "record, and can go on past a refused one.\n"
     "\n"
     "  -h, --help         print this\n"
     "  --version          print the version\n"
     "\n"
     "After each of the first 252 records of a repaint the panel shows what it showed\n"
-    "before; after the 253rd the left half is new, after the 254th both are. It\n"
-    "takes a repaint with both displays on, static drive off, duty 1/16, start line\n"
-    "0 or 16 and read-modify-write off.\n"
+    "before; after the 253rd the left half is new, after the 254th both are.\n"
     "\n"
     "Status: 0 shown, 1 a file, the trace, the input or the repaint is at fault,\n"
     "2 the arguments are.\n";
@@ -93,7 +97,9 @@ struct options {
     const char *list;
     const char *every;
     const char *delay;
+    const char *wear;
     const char *pbm;
+    const char *pgm;
     const char *form;
     const char *live;
 };
@@ -115,32 +121,53 @@ static bool is_dash(const char *path)
 /* How many of the files that are written are standard output: where one is, no text goes there. */
 static int to_standard_output(const struct options *options)
 {
-    return is_dash(options->pbm) + is_dash(options->save) + is_dash(options->records);
+    return is_dash(options->pbm) + is_dash(options->pgm) + is_dash(options->save) + is_dash(options->records);
 }
 
-/* What --live does not go with. */
+struct other {
+    const char *name, *value;
+};
+
+/* What an option does not go with is not given, either. */
+static bool goes_without(const char *words, const struct other *others, size_t count)
+{
+    for (size_t i = 0; i < count; i++)
+        if (others[i].value != NULL)
+            return wrong_argument(words, others[i].name);
+    return true;
+}
+
 static bool check_live(const struct options *options)
 {
-    const struct {
-        const char *name, *value;
-    } others[] = {
+    const struct other others[] = {
         { "--repaint", options->repaint }, { "--records", options->records }, { "--at", options->at },
         { "--changes", options->changes }, { "--list", options->list }, { "--every", options->every },
-        { "--delay", options->delay }, { "--pbm", options->pbm },
+        { "--delay", options->delay }, { "--wear", options->wear }, { "--pbm", options->pbm }, { "--pgm", options->pgm },
     };
     if (options->trace != NULL)
         return wrong_argument("--live takes standard input and no file:", options->trace);
-    for (size_t i = 0; i < sizeof others / sizeof others[0]; i++)
-        if (others[i].value != NULL)
-            return wrong_argument("--live goes without", others[i].name);
+    if (!goes_without("--live goes without", others, sizeof others / sizeof others[0]))
+        return false;
     if (is_dash(options->start))
         return wrong_argument("--live reads standard input, and so cannot --start from", "-");
     return !is_dash(options->save) || wrong_argument("--live goes without --save to", "-");
 }
 
+/* The counts are shown instead of the panel. */
+static bool check_wear(const struct options *options)
+{
+    const struct other others[] = {
+        { "--changes", options->changes }, { "--list", options->list }, { "--every", options->every },
+        { "--delay", options->delay }, { "--pbm", options->pbm },
+    };
+    return options->wear == NULL || goes_without("--wear goes without", others, sizeof others / sizeof others[0]);
+}
+
 /* Options that need another one. */
 static bool check_companions(const struct options *options)
 {
+    if (options->pgm != NULL && options->wear == NULL)
+        return wrong_argument("--pgm goes with", "--wear");
     if (options->list != NULL && options->changes == NULL)
         return wrong_argument("--list goes with", "--changes");
     if (options->delay != NULL && options->every == NULL)
@@ -154,7 +181,7 @@ static bool check_streams(const struct options *options)
     if (is_dash(options->trace) + is_dash(options->start) + is_dash(options->repaint) > 1)
         return wrong_argument("only one of the files that are read can be", "-");
     if (to_standard_output(options) > 1)
-        return wrong_argument("only one of --pbm, --save and --records can be", "-");
+        return wrong_argument("only one of --pbm, --pgm, --save and --records can be", "-");
     if (options->every != NULL && (is_dash(options->save) || is_dash(options->records)))
         return wrong_argument("--every goes without --save or --records to", "-");
     return to_standard_output(options) == 0 || !isatty(STDOUT_FILENO)
@@ -171,7 +198,7 @@ static bool check_options(const struct options *options)
         return wrong_argument("--at takes a number of records, 0 or more, not", options->at);
     if (options->delay != NULL && (!is_count(options->delay) || strlen(options->delay) > 6))
         return wrong_argument("--delay takes milliseconds, 0 to 999999, not", options->delay);
-    return check_companions(options) && check_streams(options);
+    return check_wear(options) && check_companions(options) && check_streams(options);
 }
 
 static bool take_options(int argc, char **argv, struct options *options)
@@ -182,7 +209,8 @@ static bool take_options(int argc, char **argv, struct options *options)
         { "--at", true, &options->at },
         { "--changes", false, &options->changes }, { "--list", false, &options->list },
         { "--every", false, &options->every }, { "--delay", true, &options->delay },
-        { "--pbm", true, &options->pbm }, { "--form", true, &options->form },
+        { "--wear", false, &options->wear },
+        { "--pbm", true, &options->pbm }, { "--pgm", true, &options->pgm }, { "--form", true, &options->form },
         { "--live", false, &options->live },
     };
     *options = (struct options){ 0 };
@@ -205,9 +233,23 @@ static size_t records_of(const char *at)
     return count > SIZE_MAX / RECORD ? SIZE_MAX / RECORD : count;
 }
 
-/* Sends the input, whole where at is NULL, else its first records: what follows them is not looked at. Where kept is
- * not NULL it gets what is sent. */
-static bool send_input(struct run *run, struct input *input, const char *at, struct bytes *kept)
+/* What is kept of what is sent, for what is shown of it; NULL is not kept. */
+struct kept {
+    struct bytes *records;
+    struct wear *wear;
+};
+
+/* Where stores are counted, nothing is said yet of a refused record. */
+static bool send_part(struct run *run, const uint8_t *part, size_t length, const struct kept *kept)
+{
+    if (kept->records != NULL && !append(kept->records, part, length))
+        return false;
+    return kept->wear != NULL ? send_counted(run, part, length, kept->wear) : send_bytes(run, part, length);
+}
+
+/* Sends the input, whole where at is NULL, else its first records: what follows them is not looked at. It may end inside a
+ * record. */
+static bool send_input(struct run *run, struct input *input, const char *at, const struct kept *kept)
 {
     static uint8_t part[PEDRALUME_PART_MAX_BYTES];
     size_t wanted = at != NULL ? records_of(at) * RECORD : SIZE_MAX, taken = 0;
@@ -215,18 +257,16 @@ static bool send_input(struct run *run, struct input *input, const char *at, str
     while (taken < wanted
            && (got = read_some(input, part, wanted - taken < sizeof part ? wanted - taken : sizeof part)) > 0) {
         taken += (size_t)got;
-        if ((kept != NULL && !append(kept, part, (size_t)got)) || !send_bytes(run, part, (size_t)got))
+        if (!send_part(run, part, (size_t)got, kept))
             return false;
     }
     if (got < 0)
         return false;
-    if (at == NULL)
-        return end_run(run);
-    return taken == wanted || too_few(input->name, pedralume_feed_records(run->feed), at);
+    return at == NULL || taken == wanted || too_few(input->name, pedralume_feed_records(run->feed), at);
 }
 
 /* With no trace, only the start. */
-static bool send_trace(struct run *run, const char *path, const char *at, struct bytes *kept)
+static bool send_trace(struct run *run, const char *path, const char *at, const struct kept *kept)
 {
     struct input input;
     if (path == NULL)
@@ -261,8 +301,8 @@ static bool make_repaint(const struct run *run, const char *path, uint8_t record
     return pedralume_number(answer) == PEDRALUME_DONE || repaint_refused(run->name, answer);
 }
 
-/* Sends the repaint, whole or its first records. Kept gets what is sent. */
-static bool send_repaint(struct run *run, const struct options *options, struct bytes *kept)
+/* Sends the repaint, whole or its first records. */
+static bool send_repaint(struct run *run, const struct options *options, const struct kept *kept)
 {
     uint8_t records[PEDRALUME_REPAINT_BYTES];
     size_t count = options->at != NULL ? records_of(options->at) : PEDRALUME_REPAINT_RECORDS;
@@ -273,7 +313,7 @@ static bool send_repaint(struct run *run, const struct options *options, struct 
         return false;
     if (count > PEDRALUME_REPAINT_RECORDS)
         return too_few(run->name, PEDRALUME_REPAINT_RECORDS, options->at);
-    return append(kept, records, count * RECORD) && send_bytes(run, records, count * RECORD);
+    return send_part(run, records, count * RECORD, kept);
 }
 
 static bool write_records(const char *path, const struct bytes *records)
@@ -321,28 +361,67 @@ static bool show_panel(const struct options *options, const struct run *run)
     return all_printed();
 }
 
+static bool begin_trace(struct run *run, const struct options *options)
+{
+    return begin_run(run, options->start != NULL ? options->start : options->trace, options->start);
+}
+
+/* The files that are not what is shown. */
+static bool write_files(const struct options *options, const struct run *run, const struct bytes *repaint)
+{
+    return (options->save == NULL || save_run(run, options->save))
+        && (options->records == NULL || write_records(options->records, repaint));
+}
+
 /* With --changes or --every, what is sent last is gone through again: the trace, or with --repaint the repaint. */
 static bool show_trace(const struct options *options)
 {
-    static struct bytes kept;
+    static struct bytes records;
     struct run run, before;
     bool again = options->changes != NULL || options->every != NULL, repaints = options->repaint != NULL;
-    if (!begin_run(&run, options->start != NULL ? options->start : options->trace, options->start))
+    const struct kept of_trace = { again && !repaints ? &records : NULL, NULL }, of_repaint = { &records, NULL };
+    if (!begin_trace(&run, options))
         return false;
     before = run;
-    if (!send_trace(&run, options->trace, repaints ? NULL : options->at, again && !repaints ? &kept : NULL))
+    if (!send_trace(&run, options->trace, repaints ? NULL : options->at, &of_trace) || !end_run(&run))
         return false;
     before.name = run.name;
     if (repaints) {
         before = run;
-        if (!send_repaint(&run, options, &kept))
+        if (!send_repaint(&run, options, &of_repaint))
             return false;
     }
-    if ((options->save != NULL && !save_run(&run, options->save))
-        || (options->records != NULL && !write_records(options->records, &kept)))
+    if (!write_files(options, &run, &records))
         return false;
-    struct batch batch = { &before, kept.at, kept.length / RECORD };
+    struct batch batch = { &before, records.at, records.length / RECORD };
     return again ? show_again(options, &batch) : show_panel(options, &run);
+}
+
+/* ---- wear ---- */
+
+/* Of the trace, or with --repaint of the repaint: whether there is something to show. Where a record was refused there is what
+ * came before it, and the run is no longer open. */
+static bool count_stores(struct run *run, const struct options *options, struct bytes *records, struct wear *wear)
+{
+    const struct kept nothing = { NULL, NULL }, of_trace = { NULL, wear }, of_repaint = { records, wear };
+    if (!begin_trace(run, options))
+        return false;
+    if (options->repaint == NULL)
+        return send_trace(run, options->trace, options->at, &of_trace) || !is_open(run);
+    return send_trace(run, options->trace, NULL, &nothing) && end_run(run) && send_repaint(run, options, &of_repaint);
+}
+
+/* A refusal is said last. */
+static bool show_wear(const struct options *options)
+{
+    static struct bytes records;
+    static struct wear wear;
+    struct run run;
+    if (!count_stores(&run, options, &records, &wear))
+        return false;
+    bool shown = write_files(options, &run, &records) && (options->pgm == NULL || write_wear(options->pgm, &wear))
+              && (to_standard_output(options) > 0 || print_wear(&wear, &run));
+    return end_run(&run) && shown;
 }
 
 int main(int argc, char **argv)
@@ -354,6 +433,7 @@ int main(int argc, char **argv)
         return status;
     if (!take_options(argc, argv, &options))
         return STATUS_ARGUMENTS;
-    bool shown = options.live != NULL ? show_live(options.start, options.save) : show_trace(&options);
+    bool shown = options.live != NULL ? show_live(options.start, options.save)
+               : options.wear != NULL ? show_wear(&options) : show_trace(&options);
     return shown ? EXIT_SUCCESS : EXIT_FAILURE;
 }

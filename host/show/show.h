@@ -32,6 +32,9 @@ bool take_frame(const struct run *run, uint8_t frame[PEDRALUME_FRAME_BYTES]);
 /* The form in which print_frame draws: as named, or where that is NULL the one that fits locale and terminal. */
 bool choose_form(const char *name);
 
+/* Only answers: whether that form has ASCII characters alone. */
+bool in_ascii(void);
+
 /* Standard output may hold more before and after it: this does not look whether all has gone out. */
 void print_frame(const uint8_t *frame);
 
@@ -84,6 +87,22 @@ bool page_changes(const struct changes *changes, const struct batch *batch);
 /* The panel before the first record and after each, or where changes is not NULL after each of those: as text, in turn on a
  * terminal; or where pbm is not NULL as numbered PBM files. */
 bool show_every(const struct batch *batch, const struct changes *changes, const char *pbm, unsigned delay);
+
+/* ---- wear.c ---- */
+
+/* How often each cell was stored to, in the order of RAM: 320 x chip + 80 x page + column. */
+struct wear {
+    uint64_t counts[PEDRALUME_RAM_BYTES];
+};
+
+/* Sends the bytes and counts their stores. False where a record is refused, of which it says nothing. */
+bool send_counted(struct run *run, const uint8_t *bytes, size_t length, struct wear *wear);
+
+/* The counts as shades, the most written cells, and the sum. */
+bool print_wear(const struct wear *wear, const struct run *run);
+
+/* A PGM file with the counts. */
+bool write_wear(const char *path, const struct wear *wear);
 
 /* ---- live.c ---- */
 

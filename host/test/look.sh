@@ -127,7 +127,7 @@ for arguments in "- --start -" "- --repaint -" "$t --start - --repaint -"; do
 done
 for arguments in "--pbm - --save -" "--repaint $new_name --pbm - --records -" "--repaint $new_name --records - --save -"; do
     # shellcheck disable=SC2086
-    refused "two standard outputs, $arguments" 2 'show: only one of --pbm, --save and --records can be "-"; see show --help' "$t" $arguments
+    refused "two standard outputs, $arguments" 2 'show: only one of --pbm, --pgm, --save and --records can be "-"; see show --help' "$t" $arguments
 done
 refused "--records alone" 2 'show: --records goes with "--repaint"; see show --help' "$t" --records "$work/r"
 refused "live, --records" 2 'show: --live goes without "--records"; see show --help' --live --records "$work/r"

@@ -591,7 +591,7 @@ for arguments in "--help" "-h" "$t --foo --help"; do
     check "$arguments: usage" same "$(head -n 1 "$work/out")" "Usage: show [TRACE] [OPTION]..."
     check "$arguments: usage, live" same "$(sed -n 2p "$work/out")" "       show --live [--start FILE] [--save FILE] [--form FORM]"
     check "$arguments: wider than a terminal" same "$(awk 'length($0) > 79' "$work/out")" ""
-    for option in --start --save --repaint --records --at --changes --list --every --delay --pbm --form --live "-h, --help" --version; do
+    for option in --start --save --repaint --records --at --changes --list --every --delay --wear --pbm --pgm --form --live "-h, --help" --version; do
         check "$arguments: $option" same "$(grep -c -e "^  $option " "$work/out")" 1
     done
 done
