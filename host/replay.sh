@@ -1,23 +1,42 @@
-# What ../replay and the installed pedralume-replay share: they read it with `.`, or begin with what it needs, and have set
-#   $name      what the user calls it by
+# What ../replay and ../wear share, and pedralume-replay and pedralume-wear, which are installed: they read it with `.`, or begin with what it
+# needs, and have set
+#   $name      what the user calls it by; what it is called without pedralume- says which of the two it is
 #   $program   the proved program, which prints and gives no status
-#   $teller    what --text runs
+#   $teller    what --text runs, or nothing where there is no --text
 #   $version   what --version prints
 #   ready      a function that has the program there, or fails; called once the arguments are right
 # shellcheck shell=sh disable=SC2154
 
+# what they print, and what takes a trace that number 1 refuses
+case ${name#pedralume-} in
+replay)
+    longer="$name --text"
+    prints="Prints record, kind and byte of each answer, then the end line:
+number, place, reads compared, reads that differ from the trace. FILE may be -
+for standard input."
+    ;;
+wear)
+    longer="${name%wear}show --wear"
+    prints="Prints how often each RAM cell was stored to, up to a refused
+record: for each chip and page a line, wear, chip, page and a count for each of
+the 80 columns; a line with their sum; the end line: number, place, reads
+compared, reads that differ from the trace. A trace refused as a whole (numbers
+1 and 3) has the end line alone. FILE may be - for standard input.
+
+$longer draws the counts, also of a trace over 65,536 bytes."
+    ;;
+esac
+
 usage() {
     cat <<END
-Usage: $name [FILE]
-       $name --text [FILE]
+Usage: $name [FILE]${teller:+
+       $name --text [FILE]}
 
 Replays the bus records of FILE, or of standard input, on two fresh chips with
-RAM all 0. Prints record, kind and byte of each answer, then the end line:
-number, place, reads compared, reads that differ from the trace. FILE may be -
-for standard input.
-
+RAM all 0. $prints
+${teller:+
   --text      each record in words and, where a read differs, what was recorded
-              and what the chip gives; also of a trace over 65,536 bytes
+              and what the chip gives; also of a trace over 65,536 bytes}
   -h, --help  print this
   --version   print the version
 
@@ -25,7 +44,7 @@ Status: 0 the whole trace is replayed; 1 it is refused, or there is no whole
 end line (it could not be read to its end, or standard output not be written,
 or the program not be built or found); 2 the argument is at fault: an unknown
 option, more than one file, or a file or a standard input that is missing, a
-directory or not readable. With --text, 1 where the file cannot be read.
+directory or not readable.${teller:+ With --text, 1 where the file cannot be read.}
 END
 }
 fail() { # STATUS WORDS...
@@ -49,12 +68,12 @@ for argument; do
         echo "$name (Pedralume) $version" 2>/dev/null || fail 1 "standard output cannot be written"
         exit
         ;;
-    --text) told=yes ;;
     --)
         options=''
         [ -z "$told" ] || set -- "$@" --
         ;;
     -?*)
+        if [ -n "$teller" ] && [ "$argument" = --text ]; then told=yes; continue; fi
         unknown=${unknown:-$argument}
         set -- "$@" "$argument"
         ;;
@@ -84,7 +103,7 @@ set -- $(printf %s "$text" | tail -n 2)
 # the words for a record are those of pedralume_words; test/words.sh holds them to that
 case $2 in
 0) exit 0 ;;
-1) fail 1 "refused with number 1: a trace over 65,536 bytes; $name --text takes it" ;;
+1) fail 1 "refused with number 1: a trace over 65,536 bytes; $longer takes it" ;;
 3) why="a trace that ends inside a record"; fail 1 "refused with number 3: $why (whole records: $3)" ;;
 4) why="spare line bits or the fourth byte not 0" ;;
 5) why="a chip over 1" ;;

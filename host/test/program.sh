@@ -1,19 +1,27 @@
 #!/bin/sh
-# Holds the program to the listing that the plain implementation makes, on inputs of every kind, and to printing no end line where a read or a
-# write fails. Usage: program.sh PROGRAM LISTING TRACES, the last a folder to work in.
+# Holds a proved program to what others say of the same trace, on inputs of every kind, and to printing no end line where a read or a write fails.
+# Usage: program.sh PROGRAM TRACES COMMAND..., TRACES a folder to work in. A command reads a trace and prints what the program must print.
 set -u
-program=$1 listing=$2 traces=$3
+program=$1 traces=$2
+shift 2
+tests=$(dirname "$0")
 failed=0 runs=0
-complain() { echo "program: $*"; failed=$((failed + 1)); }
-compare() { # LABEL FILE: the program, given the file
-    runs=$((runs + 1))
-    "$listing" <"$2" >"$traces/wanted"
-    "$program" <"$2" >"$traces/printed"
-    cmp -s "$traces/wanted" "$traces/printed" || complain "$1: prints something else"
-}
-record() { printf '\%03o\%03o\%03o\%03o' "$1" "$2" "$3" "$4"; }
+complain() { echo "program: $program: $*"; failed=$((failed + 1)); }
 mkdir -p "$traces"
 in=$traces/in
+printf '%s\n' "$@" >"$traces/commands"
+held() { # LABEL FILE: what the program printed for the file, to what each command prints for it
+    while read -r command; do
+        runs=$((runs + 1))
+        sh -c "$command" <"$2" >"$traces/wanted"
+        cmp -s "$traces/wanted" "$traces/printed" || complain "$1: prints something else than $command"
+    done <"$traces/commands"
+}
+compare() { # LABEL FILE: the program, given the file
+    "$program" <"$2" >"$traces/printed"
+    held "$1" "$2"
+}
+record() { printf '\%03o\%03o\%03o\%03o' "$1" "$2" "$3" "$4"; }
 
 : >"$in"; compare "empty" "$in"
 printf '\002' >"$in"; compare "one byte" "$in"
@@ -43,12 +51,16 @@ while [ "$i" -lt 40 ]; do
     compare "random $i" "$in"
     i=$((i + 1))
 done
+for example in "$tests"/../../examples/*.trace; do compare "$(basename "$example")" "$example"; done
+for seed in 1 2 3; do
+    # every command, read-modify-write and columns up to 80
+    "$tests/traces.py" good "$seed" 16384 >"$in"; compare "good $seed" "$in"
+    for kind in damaged cut noise; do "$tests/traces.py" $kind "$seed" 300 >"$in"; compare "$kind $seed" "$in"; done
+done
 
 # a slow pipe: the same bytes in small pieces
-runs=$((runs + 1))
-"$listing" <"$traces/nine" >"$traces/wanted"
 { head -c 3 "$traces/nine"; sleep 0.2; tail -c +4 "$traces/nine" | head -c 10; sleep 0.2; tail -c +14 "$traces/nine"; } | "$program" >"$traces/printed"
-cmp -s "$traces/wanted" "$traces/printed" || complain "a slow pipe: prints something else"
+held "a slow pipe" "$traces/nine"
 
 # a read that fails, and a write that fails
 runs=$((runs + 2))
@@ -57,5 +69,5 @@ runs=$((runs + 2))
 (ulimit -f 1; trap '' XFSZ; awk 'BEGIN { for (i = 0; i < 4000; i++) printf "%s", "abcd" }' | tr 'abcd' '\005\000\007\000' | "$program" >"$traces/short") 2>/dev/null
 grep -q '^end' "$traces/short" && complain "a short write: prints an end line"
 
-echo "program: $runs runs, $failed failed"
+echo "program: $(basename "$program"): $runs comparisons, $failed failed"
 [ "$failed" -eq 0 ]
