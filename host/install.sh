@@ -22,8 +22,11 @@ files() { # COMMAND: calls it for each file with mode, source and place; a sourc
         "$1" 644 "man/pedralume-$own.1" "$MANDIR/man1/pedralume-$own.1"
     done
     "$1" 755 "$PROGRAM" "$LIBDIR/pedralume/replay"
-    "$1" 755 @replay "$BINDIR/pedralume-replay"
-    "$1" 644 man/pedralume-replay.1 "$MANDIR/man1/pedralume-replay.1"
+    "$1" 755 "$WEAR" "$LIBDIR/pedralume/wear"
+    for own in replay wear; do
+        "$1" 755 "@$own" "$BINDIR/pedralume-$own"
+        "$1" 644 "man/pedralume-$own.1" "$MANDIR/man1/pedralume-$own.1"
+    done
     "$1" 644 man/pedralume.3 "$MANDIR/man3/pedralume.3"
     "$1" 644 ../docs/FORMATS.md "$DOCDIR/FORMATS.md"
     for own in examples/*.c; do "$1" 644 "$own" "$DOCDIR/$own"; done
@@ -42,7 +45,7 @@ earlier() { # prints the shared libraries of this first number that are of anoth
     done
 }
 
-# ---- the two that are made here ----
+# ---- those that are made here ----
 
 # A place under PREFIX is said by it, so that pkg-config can move all of them.
 pc() {
@@ -54,11 +57,13 @@ by_prefix() { # PLACE
     *) printf '%s' "$1" ;;
     esac
 }
-replay() {
+replay() { script replay "$BINDIR/pedralume-text"; }
+wear() { script wear ''; }
+script() { # NAME TELLER
     cat <<END && cat replay.sh
 #!/bin/sh
 # Made by the install, from host/install.sh and host/replay.sh.
-name=pedralume-replay program=$LIBDIR/pedralume/replay teller=$BINDIR/pedralume-text version=$VERSION
+name=pedralume-$1 program=$LIBDIR/pedralume/$1 teller=$2 version=$VERSION
 ready() { [ -x "\$program" ] || fail 1 "\$program: no such program"; }
 END
 }
@@ -129,6 +134,7 @@ put)
     links no_folder
     as_the_sources "$ARCHIVE" "./show --version, which builds it,"
     as_the_sources "$PROGRAM" "./replay examples/listing.trace, which builds it,"
+    as_the_sources "$WEAR" "./wear examples/listing.trace, which builds it,"
     files put_file
     links put_link
     earlier | while read -r library; do rm -f "$library"; done

@@ -45,12 +45,12 @@ version=$(sed -nE 's/^#define PEDRALUME_VERSION_(MAJOR|MINOR|PATCH) //p' host/in
 major=${version%%.*}
 {
     printf '%s\n' "./include/pedralume.h 644" "./lib/libpedralume.a 644" "./lib/libpedralume.so -> libpedralume.so.$major" \
-        "./lib/libpedralume.so.$major -> libpedralume.so.$version" "./lib/libpedralume.so.$version 755" "./lib/pedralume/replay 755" \
-        "./lib/pkgconfig/pedralume.pc 644" "./bin/pedralume-replay 755" "./share/man/man1/pedralume-replay.1 644" "./share/man/man3/pedralume.3 644" \
-        "./share/doc/pedralume/FORMATS.md 644"
+        "./lib/libpedralume.so.$major -> libpedralume.so.$version" "./lib/libpedralume.so.$version 755" \
+        "./lib/pkgconfig/pedralume.pc 644" "./share/man/man3/pedralume.3 644" "./share/doc/pedralume/FORMATS.md 644"
+    for proved in replay wear; do echo "./lib/pedralume/$proved 755"; done
     for function in $calls $helpers; do echo "./share/man/man3/pedralume_$function.3 -> pedralume.3"; done
     for example in $examples; do echo "./share/doc/pedralume/examples/$example.c 644"; done
-    for program in $programs; do printf '%s\n' "./bin/pedralume-$program 755" "./share/man/man1/pedralume-$program.1 644"; done
+    for program in $programs replay wear; do printf '%s\n' "./bin/pedralume-$program 755" "./share/man/man1/pedralume-$program.1 644"; done
 } | sort >"$work/expected"
 make_ install PREFIX="$prefix"; good "install"
 listing "$prefix" >"$work/first"
@@ -60,6 +60,7 @@ make_ install PREFIX="$prefix"; good "install again"
 listing "$prefix" >"$work/second"
 check "install again: not the same" cmp -s "$work/first" "$work/second"
 for program in $programs; do check "$program: another than is built" cmp -s "host/build/$program" "$prefix/bin/pedralume-$program"; done
+for proved in replay wear; do check "$proved: another than is built" cmp -s "target/bin/$proved" "$prefix/lib/pedralume/$proved"; done
 cmp -s target/staticlib/libpedralume.a "$prefix/lib/libpedralume.a"; check "another archive" same $? 0
 cmp -s host/include/pedralume.h "$prefix/include/pedralume.h"; check "another header" same $? 0
 
@@ -67,14 +68,19 @@ make_ install PREFIX=/opt/pedra DESTDIR="$work/a stage"; good "DESTDIR"
 names "$work/a stage/opt/pedra" >"$work/staged"
 check "DESTDIR: other files" same "$(cat "$work/staged")" "$(names "$prefix")"
 check "DESTDIR: its path is in a file" same "$(grep -rlF "$work" "$work/a stage/opt/pedra")" ""
-check "DESTDIR: pedralume-replay" grep -q "program=/opt/pedra/lib/pedralume/replay" "$work/a stage/opt/pedra/bin/pedralume-replay"
+for proved in replay wear; do
+    check "DESTDIR: pedralume-$proved" grep -q "program=/opt/pedra/lib/pedralume/$proved " "$work/a stage/opt/pedra/bin/pedralume-$proved"
+done
 make_ install PREFIX="$work/own" LIBDIR="$work/own/lib64" INCLUDEDIR="$work/headers" BINDIR="$work/own/programs" MANDIR="$work/own/man" DOCDIR="$work/own/doc"
 good "own places"
-check "own places: what is where" same "$(cd "$work" && find own headers -name '*replay' -o -name '*.[ah]' -o -name 'pedralume.3' -o -name '*.md' | sort | paste -sd ' ')" \
-    "headers/pedralume.h own/doc/FORMATS.md own/lib64/libpedralume.a own/lib64/pedralume/replay own/man/man3/pedralume.3 own/programs/pedralume-replay"
+check "own places: what is where" same "$(cd "$work" && find own headers -name '*replay' -o -name '*wear' -o -name '*.[ah]' -o -name 'pedralume.3' -o -name '*.md' | sort | paste -sd ' ')" \
+    "headers/pedralume.h own/doc/FORMATS.md own/lib64/libpedralume.a own/lib64/pedralume/replay own/lib64/pedralume/wear own/man/man3/pedralume.3 \
+own/programs/pedralume-replay own/programs/pedralume-wear"
 check "own places: pedralume.pc" same "$(head -n 3 "$work/own/lib64/pkgconfig/pedralume.pc" | paste -sd ' ')" \
     "prefix=$work/own libdir=\${prefix}/lib64 includedir=$work/headers"
-"$work/own/programs/pedralume-replay" examples/listing.trace >/dev/null; check "own places: pedralume-replay: status $?" same $? 0
+for proved in replay wear; do
+    "$work/own/programs/pedralume-$proved" examples/listing.trace >/dev/null; check "own places: pedralume-$proved: status $?" same $? 0
+done
 
 # ---- the shared library ----
 
@@ -188,32 +194,43 @@ fi
 
 # ---- the programs ----
 
-replay=$prefix/bin/pedralume-replay
-target/bin/replay <examples/listing.trace >"$work/answers"
-replayed() { good "$1"; check "$1: prints something else" cmp -s "$work/out" "$work/answers"; } # LABEL
+replayed() { good "$called, $1"; check "$called, $1: prints something else" cmp -s "$work/out" "$work/answers"; } # LABEL
 ended() { # LABEL STATUS WORDS
-    check "$1: status $status" same "$status" "$2"
-    check "$1: says '$(cat "$work/err")'" same "$(cat "$work/err")" "pedralume-replay: $3"
+    check "$called, $1: status $status" same "$status" "$2"
+    check "$called, $1: says '$(cat "$work/err")'" same "$(cat "$work/err")" "$called: $3"
 }
-run "$replay" examples/listing.trace; replayed "pedralume-replay, a file"
-run "$replay" <examples/listing.trace; replayed "pedralume-replay, standard input"
-ln -s "$replay" "$work/link"
-run env name=x program=/bin/true "$work/link" examples/listing.trace; replayed "pedralume-replay, a link, with names of its own around"
-run "$replay" --help; good "pedralume-replay --help"
-check "pedralume-replay --help: usage" same "$(head -n 1 "$work/out")" "Usage: pedralume-replay [FILE]"
-run "$replay" -x; ended "pedralume-replay -x" 2 'unknown option "-x"; see pedralume-replay --help'
-run "$replay" a b; ended "pedralume-replay, two files" 2 'more than one file: "b"; see pedralume-replay --help'
-run "$replay" nowhere; ended "pedralume-replay, no file" 2 'nowhere: no such file'
-run "$replay" examples; ended "pedralume-replay, a directory" 2 'examples: is a directory'
 printf '\006\000\000\000' >"$work/equal"
-run "$replay" "$work/equal"; ended "pedralume-replay, refused" 1 'refused with number 6 at record 0: RD and WR equal'
-"$replay" examples/listing.trace >/dev/full 2>"$work/err"
-status=$?; ended "pedralume-replay, a full disk" 1 'standard output cannot be written'
-"$replay" --help >/dev/full 2>"$work/err"
-status=$?; ended "pedralume-replay --help, a full disk" 1 'standard output cannot be written'
-mv "$prefix/lib/pedralume/replay" "$work/away"
-run "$replay" examples/listing.trace; ended "pedralume-replay, no program" 1 "$prefix/lib/pedralume/replay: no such program"
-mv "$work/away" "$prefix/lib/pedralume/replay"
+head -c 65537 /dev/zero >"$work/long"
+for proved in replay wear; do
+    called=pedralume-$proved
+    installed=$prefix/bin/$called
+    target/bin/$proved <examples/listing.trace >"$work/answers"
+    run "$installed" examples/listing.trace; replayed "a file"
+    run "$installed" <examples/listing.trace; replayed "standard input"
+    ln -sf "$installed" "$work/link"
+    run env name=x program=/bin/true teller=x "$work/link" examples/listing.trace; replayed "a link, with names of its own around"
+    run "$installed" --help; good "$called --help"
+    check "$called --help: usage" same "$(head -n 1 "$work/out")" "Usage: $called [FILE]"
+    run "$installed" --version; good "$called --version"
+    check "$called --version: '$(cat "$work/out")'" same "$(cat "$work/out")" "$called (Pedralume) $version"
+    run "$installed" -x; ended "-x" 2 "unknown option \"-x\"; see $called --help"
+    run "$installed" a b; ended "two files" 2 "more than one file: \"b\"; see $called --help"
+    run "$installed" nowhere; ended "no file" 2 'nowhere: no such file'
+    run "$installed" examples; ended "a directory" 2 'examples: is a directory'
+    run "$installed" "$work/equal"; ended "refused" 1 'refused with number 6 at record 0: RD and WR equal'
+    case $proved in replay) longer="pedralume-replay --text" ;; wear) longer="pedralume-show --wear" ;; esac
+    run "$installed" "$work/long"; ended "too long" 1 "refused with number 1: a trace over 65,536 bytes; $longer takes it"
+    "$installed" examples/listing.trace >/dev/full 2>"$work/err"
+    status=$?; ended "a full disk" 1 'standard output cannot be written'
+    "$installed" --help >/dev/full 2>"$work/err"
+    status=$?; ended "--help, a full disk" 1 'standard output cannot be written'
+    mv "$prefix/lib/pedralume/$proved" "$work/away"
+    run "$installed" examples/listing.trace; ended "no program" 1 "$prefix/lib/pedralume/$proved: no such program"
+    mv "$work/away" "$prefix/lib/pedralume/$proved"
+done
+run "$installed" --text examples/listing.trace; ended "--text" 2 'unknown option "--text"; see pedralume-wear --help'
+run "$prefix/bin/pedralume-replay" --text examples/listing.trace; good "pedralume-replay --text"
+check "pedralume-replay --text: ends otherwise" same "$(tail -n 1 "$work/out" | cut -c 1-25)" "# end: number 0, done, pl"
 for program in $programs; do
     run "$prefix/bin/pedralume-$program" examples/name.trace; good "pedralume-$program"
     check "pedralume-$program: prints nothing" [ -s "$work/out" ]
@@ -228,12 +245,13 @@ done
 
 # ---- the man pages ----
 
-options() { grep -oE '(^|[^A-Za-z0-9-])--?[a-z][a-z-]*' | sed 's/^[^-]//' | sort -u; }
+# what show takes is not wear's own, which names it
+options() { sed 's/show --wear//' | grep -oE '(^|[^A-Za-z0-9-])--?[a-z][a-z-]*' | sed 's/^[^-]//' | sort -u; }
 section() { sed 's/\\-/-/g; s/\\f.//g' "$2" | sed -n "/^\\.SH $1\$/,/^\\.SH /p" | sed 1d; } # NAME PAGE
 apart() { # LABEL COLUMNS: what comm gives of the options of --help and of the page without these columns, which must be nothing
     check "$1: $(comm "$2" "$work/helped" "$work/told" | paste -sd ' ')" same "$(comm "$2" "$work/helped" "$work/told")" ""
 }
-for program in $programs replay; do
+for program in $programs replay wear; do
     page=host/man/pedralume-$program.1
     run "$prefix/bin/pedralume-$program" --help; good "pedralume-$program --help"
     section OPTIONS "$page" | options >"$work/told"
@@ -269,7 +287,7 @@ check "pedralume.3: not one section of files" same "$(grep -cx '.SH FILES' "$pag
 check "a page with another version" same "$(cd "$prefix/share/man" && grep -LF "\"Pedralume $version\"" man?/*)" ""
 check "a placeholder that stays" same "$(grep -rIlE '@[A-Z]+@' "$prefix")" ""
 if ! missing man "man pages found by it and rendered"; then
-    for page in 1/pedralume-replay 3/pedralume $(for program in $programs; do echo "1/pedralume-$program"; done); do
+    for page in 1/pedralume-replay 1/pedralume-wear 3/pedralume $(for program in $programs; do echo "1/pedralume-$program"; done); do
         run man -M "$prefix/share/man" -w "${page%/*}" "${page#*/}"; good "man -w $page"
         check "man -w $page: finds '$(cat "$work/out")'" same "$(cat "$work/out")" "$prefix/share/man/man${page%/*}/${page#*/}.${page%/*}"
     done
@@ -317,6 +335,9 @@ rmdir "host/$archive"; mv "$work/archive" "host/$archive"
 mv "host/$program" "$work/program"
 make_ install PREFIX="$work/none"; bad "no program" "$program is missing: run \"rt check replay\" in the project's folder"; none "no program"
 mv "$work/program" "host/$program"
+mv target/bin/wear "$work/program"
+make_ install PREFIX="$work/none"; bad "no wear" "../target/bin/wear is missing: run \"rt check wear\" in the project's folder"; none "no wear"
+mv "$work/program" target/bin/wear
 mv host/man/pedralume.3 "$work/page"
 make_ install PREFIX="$work/none"; bad "no page" "install: man/pedralume.3: cannot be read"; none "no page"
 mv "$work/page" host/man/pedralume.3
@@ -344,9 +365,12 @@ make_ install PREFIX="$work/late"; bad "an archive older than the sources" \
 touch -d '2 days' target/staticlib/libpedralume.a
 make_ install PREFIX="$work/late"; bad "a program older than the sources" \
     "install: ../target/bin/replay: is older than the sources; run ./replay examples/listing.trace, which builds it, in the project's folder"
+touch -d '2 days' target/bin/replay
+make_ install PREFIX="$work/late"; bad "wear older than the sources" \
+    "install: ../target/bin/wear: is older than the sources; run ./wear examples/listing.trace, which builds it, in the project's folder"
 check "older than the sources: files are written" [ ! -e "$work/late" ]
 rm -r crates
-touch target/staticlib/libpedralume.a
+touch target/staticlib/libpedralume.a target/bin/replay
 mkdir -p "$work/late/lib"
 : >"$work/late/lib/libpedralume.so.$major.0.99"
 : >"$work/late/lib/libpedralume.so.0.1.2"
@@ -386,8 +410,8 @@ fi
 
 # ---- a full disk: it fails, and each file that is there is whole ----
 
-whole() { # LABEL FOLDER: what is there is as in the good install; pedralume.pc and the script name the folder
-    check "$1: something is not whole" same "$(listing "$2" | grep -v 'pedralume.pc\|pedralume-replay ' | grep -vxF -f "$work/first")" ""
+whole() { # LABEL FOLDER: what is there is as in the good install; pedralume.pc and the scripts name the folder
+    check "$1: something is not whole" same "$(listing "$2" | grep -v 'pedralume.pc\|bin/pedralume-replay \|bin/pedralume-wear ' | grep -vxF -f "$work/first")" ""
     check "$1: an empty or half file" same "$(find "$2" -type f \( -size 0 -o -name '*.new*' \))" ""
 }
 # files of at most so many blocks of 512 bytes: the first that is larger fails; at last only the largest does
