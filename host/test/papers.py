@@ -59,7 +59,7 @@ def pattern_of(lines):
 
 
 def try_paper(path, folder):
-    for name in ["replay", "show", "text", "examples"]:
+    for name in ["replay", "wear", "show", "text", "examples"]:
         os.symlink(os.path.join(ROOT, name), os.path.join(folder, name))
     environment = dict(os.environ, LC_ALL="C.UTF-8")
     for command, lines in commands_of(read(path)):
