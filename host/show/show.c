@@ -128,7 +128,7 @@ struct other {
     const char *name, *value;
 };
 
-/* What an option does not go with is not given, either. */
+/* False where one is given that the option does not go with, which the words say. */
 static bool goes_without(const char *words, const struct other *others, size_t count)
 {
     for (size_t i = 0; i < count; i++)

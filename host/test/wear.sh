@@ -218,7 +218,8 @@ for arguments in "" "--changes" "--pbm $pbm"; do
     rm -f "$pgm" "$pbm"
     # shellcheck disable=SC2086
     refused "--pgm $arguments" 2 'show: --pgm goes with "--wear"; see show --help' "$work/whole" --pgm "$pgm" $arguments
-    check "--pgm $arguments: writes a file" [ ! -e "$pgm" ] && [ ! -e "$pbm" ]
+    check "--pgm $arguments: writes a PGM" [ ! -e "$pgm" ]
+    check "--pgm $arguments: writes a PBM" [ ! -e "$pbm" ]
 done
 refused "wear, no trace" 2 'show: no file for "TRACE"; see show --help' --wear
 refused "wear twice" 2 'show: more than one "--wear"; see show --help' "$work/whole" --wear --wear

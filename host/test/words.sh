@@ -1,6 +1,6 @@
 #!/bin/sh
-# The words for a number: what pedralume_words gives, and that those who say them on their own say the same: the script that gives replay's status,
-# and the decoder for sigrok where there is one. Usage: words.sh, from any folder.
+# The words for a number: what pedralume_words gives, and that those who say them on their own say the same: the script that gives replay's and wear's
+# status, and the decoder for sigrok where there is one. Usage: words.sh, from any folder.
 set -u
 . "$(dirname "$0")/checks.sh"
 cd "$(dirname "$0")/.." || exit 1

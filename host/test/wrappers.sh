@@ -88,7 +88,7 @@ run ./replay --text a b; ended "--text, two files" 2 'text: more than one file: 
 wrong() { # LABEL WORDS ARGUMENTS...
     use="$name, $1" words=$2
     shift 2
-    run ./$name "$@"; ended "$use" 2 "$name: $words"; printed "$use" /dev/null; called "$use" ""
+    run "./$name" "$@"; ended "$use" 2 "$name: $words"; printed "$use" /dev/null; called "$use" ""
 }
 : >"$work/secret"; chmod 000 "$work/secret"
 for name in replay wear; do
