@@ -9,4 +9,4 @@ pub mod RecordSteps
 pub mod RecordStores
 pub mod TwoChips
 pub mod WholePanel
-pub mod WritePlaces
+pub mod RegisterBytes

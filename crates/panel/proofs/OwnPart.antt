@@ -1,17 +1,18 @@
 -- Records that all name one chip: their run over the bytes of both chips is their run over that chip's own bytes, put back.
 use Prim.Native.Nat.{ℕ, _+_, _-_, _*_, _/_, _≤_}
-use mathlib.Core.Path.{_≡_, ap, _∙_}
+use native.Mathlib.Omega.{arith}
+use mathlib.Core.Path.{_≡_, sym, ap, _∙_}
 use mathlib.Core.List.{List, _∷_, _++_}
 use mathlib.Core.Logic.{⊎-elim}
 use lib.Dec.{ltb}
-use lib.ListN.{length, take, drop}
+use lib.ListN.{length, getD, take, drop}
 use borrow.Author.Tests.{ltb-true, ltb-false}
 use Rattle.basics.specs.Halves.{partStart, partAt, partPut}
 use Rattle.basics.specs.Run.{runOf}
-use Rattle.basics.proofs.Halves.{part-length, part-lent, part-back, same-back, put-own, put-again}
+use Rattle.basics.proofs.Halves.{part-length, part-lent, part-back, same-back, put-own, put-again, part-byte}
 use Rattle.basics.proofs.RunOfPart.{Each, withState, stepIn, run-of-part}
 use Rattle.basics.proofs.Tests.{tested}
-use Rattle.sed1520.specs.BytesRun.{BytesAndRam, withRam, bytesStep, together, runBytes}
+use Rattle.sed1520.specs.BytesRun.{BytesAndRam, withRam, bytesStep, together, columnsWritten, runBytes}
 use Rattle.sed1520.specs.Records.{front, wholeRecords}
 use Rattle.sed1520.specs.Replies.{InPlace, inPlace}
 use Rattle.sed1520.specs.declared.bus.Record.{Record}
@@ -81,3 +82,14 @@ module _ (chips ram trace answers : List ℕ) (size : length chips ≡ 24) (imag
   on-parts from start is-from is-start {i} {own} {part} e =
       let lent = rw (part-lent 12 k from chips size is-from, part-lent 320 k start ram image is-start) at e in
       rw (part-back 12 k from chips size is-from own, part-back 320 k start ram image is-start part) (ap placed lent ∙ put-run)
+
+  -- the columns moved in the chip's own bytes are moved where these begin
+  pub moved-on-parts : (from : ℕ) → from ≡ partStart 12 k → {m : ℕ} (own : List ℕ) → length own ≡ 12
+      → m ≡ columnsWritten trace 0 (take (from + 12 - from) (drop from chips)) own
+      → m ≡ columnsWritten trace (partStart 12 k) chips (take from chips ++ (own ++ drop (from + 12 - from) (drop from chips)))
+  moved-on-parts from is-from own whole e =
+      let lent = rw (part-lent 12 k from chips size is-from) at e in
+      let put = partPut 12 k chips own in
+      let after : getD own 7 0 ≡ getD put (partStart 12 k + 7) 0 =
+      ap (λ (b : List ℕ). getD b 7 0) (sym (put-own 12 k chips size own whole)) ∙ part-byte 12 k put 7 (omega arith) in
+      rw (part-back 12 k from chips size is-from own) (lent ∙ rw (after, part-byte 12 k chips 7 (omega arith)))

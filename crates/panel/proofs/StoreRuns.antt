@@ -65,11 +65,12 @@ module _ (from to i : ℕ) (below : Bool) where
 -- what data writes to one chip store to
 module _ (k : ℕ) where
   pub record StoresFrom (p : Panel) (run : Run Panel Reply) : Type 0 where
+    pub page : chipAt (run .state) k .page ≡ chipAt p k .page
     pub on : writeIndex p k ≤ writeIndex (run .state) k
     pub stores : (i : ℕ) → storesTo i (run .answers) ≡ if (liesIn (writeIndex p k) (writeIndex (run .state) k) i) 1 0
 
   none-stored : (p : Panel) (n : ℕ) → StoresFrom p (asRun n [] p)
-  none-stored p n = record { on = omega arith; stores = λ i. rw (lies-in-none (writeIndex p k) i) (stores-none i) }
+  none-stored p n = record { page = refl; on = omega arith; stores = λ i. rw (lies-in-none (writeIndex p k) i) (stores-none i) }
 
   -- where an accepted data write leaves its chip
   moved : (p : Panel) (r : Record) → r .lines ≡ 3 → r .chip ≡ k → outcomeOf p r .answer .number ≡ 0
@@ -86,6 +87,14 @@ module _ (k : ℕ) where
       counted true c = rw (next-cell (c .page) (c .column)) (omega arith)
       counted false c = refl
 
+  page-kept : (p : Panel) (r : Record) → r .lines ≡ 3 → r .chip ≡ k → outcomeOf p r .answer .number ≡ 0
+      → chipAt (stepped p r) k .page ≡ chipAt p k .page
+  unfolding stepped outcomeOf
+  page-kept p r lines named done =
+      let w = write-says r (chipAt p (r .chip)) (ramAt p (r .chip)) lines done in
+      let own = own-choice (eqb (r .chip) 0) (outcomeOf p r .answer .chip) (p .left) (p .right) in
+      rw (← named) (rw own (w .page))
+
   said : (p : Panel) (r : Record) → r .lines ≡ 3 → r .chip ≡ k → outcomeOf p r .answer .number ≡ 0
       → storedIndex (outcomeOf p r .answer .stored) ≡ if (ltb (chipAt p k .column) 80) (some (writeIndex p k)) none
   unfolding outcomeOf
@@ -101,6 +110,7 @@ module _ (k : ℕ) where
       let from = rw (moved p r (each .0 .0) (each .0 .1) done) at (rest .on) in
       rw (run-accepted panelStep p r rs t)
       (record {
+        page = rest .page ∙ page-kept p r (each .0 .0) (each .0 .1) done;
         on = still-on (writeIndex p k) _ 0 (ltb (chipAt p k .column) 80) from;
         stores = λ i. stores-first i _ _
             ∙ rw (says, rest .stores i, moved p r (each .0 .0) (each .0 .1) done) (one-more (writeIndex p k) _ i (ltb (chipAt p k .column) 80) from);

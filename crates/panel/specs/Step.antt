@@ -1,17 +1,12 @@
 -- Records given to the bytes of both chips and their image: the chip that a record names is lent its own 12 bytes and its own 320 bytes.
 use Prim.Native.Nat.{ℕ}
 use mathlib.Core.List.{List}
-use mathlib.Core.Bool.{_&&_}
-use lib.Dec.{leb, eqb}
-use lib.ListN.{length}
-use Rattle.basics.specs.Choice.{if}
 use Rattle.basics.specs.Halves.{partAt, partPut}
 use Rattle.basics.specs.Run.{Step}
 use Rattle.sed1520.specs.BytesRun.{BytesAndRam, withRam, bytesStep, runTogether}
-use Rattle.sed1520.specs.ChipBytes.{chipLength, registersIn}
+use Rattle.sed1520.specs.ChipBytes.{chipLength}
 use Rattle.sed1520.specs.Cycle.{Reply}
-use Rattle.sed1520.specs.Memory.{ramLength, imageIndex}
-use Rattle.sed1520.specs.Records.{front}
+use Rattle.sed1520.specs.Memory.{ramLength}
 use Rattle.sed1520.specs.Replies.{InPlace}
 use Rattle.sed1520.specs.declared.bus.Record.{Record}
 use Rattle.sed1520.specs.declared.tally.Tally.{Tally}
@@ -31,14 +26,6 @@ unfoldable pub chipsStep : BytesAndRam → Record → Step BytesAndRam Reply
 chipsStep both r =
     let own = bytesStep (ownOf (r .chip) both) r in
     record { number = own .number; answer = own .answer; next = putBack (r .chip) both (own .next) }
-
--- where the data write that a trace begins with stores, as an index in the image of both chips, by the bytes of the chip that it names; 0 where the
--- trace begins with another record or none, or there are not 24 bytes of chips
-unfoldable pub writePlace : List ℕ → List ℕ → ℕ
-writePlace chips trace =
-    let r = front trace in
-    let own = registersIn (partAt chipLength (r .chip) chips) in
-    if (eqb (length chips) chipsLength && (leb 4 (length trace) && eqb (r .lines) 3)) (imageIndex (r .chip) (own .page) (own .column)) 0
 
 -- the records that a trace begins with and that run together, given to the bytes of both chips
 abbrev pub runChips : List ℕ → List ℕ → List ℕ → List ℕ → InPlace Tally

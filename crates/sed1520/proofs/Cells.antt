@@ -1,5 +1,5 @@
 -- The byte of a page and a column: it lies within the RAM, that of the next column comes next, those of two pages or columns lie apart, and what is read after a write.
-use Prim.Native.Nat.{ℕ, _+_, _<_}
+use Prim.Native.Nat.{ℕ, _+_, _-_, _<_, _≤_}
 use native.Mathlib.Omega.{arith}
 use mathlib.Core.Path.{_≡_}
 use mathlib.Core.List.{List}
@@ -14,6 +14,10 @@ within-ram page column h l = omega arith
 pub next-cell : (page column : ℕ) → ramIndex page (column + 1) ≡ ramIndex page column + 1
 unfolding ramIndex
 next-cell page column = omega arith
+
+pub cells-between : (page c d : ℕ) → ramIndex page c ≤ ramIndex page d → ramIndex page c + (d - c) ≡ ramIndex page d
+unfolding ramIndex
+cells-between page c d on = omega arith
 
 pub same-cell : (page column page′ column′ : ℕ) → column < 80 → column′ < 80 → ramIndex page column ≡ ramIndex page′ column′
     → (page ≡ page′) × (column ≡ column′)

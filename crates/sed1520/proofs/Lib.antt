@@ -5,6 +5,7 @@ pub mod ColumnRange
 pub mod ColumnRefusals
 pub mod ColumnSets
 pub mod Counts
+pub mod ColumnsWritten
 pub mod CountingStops
 pub mod CommandBytes
 pub mod CycleKeeps

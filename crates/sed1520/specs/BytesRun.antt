@@ -1,7 +1,7 @@
 -- Records given to the 12 bytes of a chip and its own 320 bytes of RAM, with number 2 not tested. An accepted record does what the cycle does to the
 -- registers that the bytes say, and stores the bytes of the registers that it sets and no others. On bytes that number 2 lets pass this is the
 -- chip's cycle (EveryBytesStep).
-use Prim.Native.Nat.{ℕ, suc, _*_, _/_}
+use Prim.Native.Nat.{ℕ, suc, _+_, _-_, _*_, _/_}
 use mathlib.Core.Bool.{Bool, not, _&&_, _||_}
 use mathlib.Core.List.{List, [], _∷_}
 use mathlib.Core.Option.{Option, none, some}
@@ -15,7 +15,7 @@ use Rattle.sed1520.specs.ChipBytes.{chipLength, chipBytes, registersIn}
 use Rattle.sed1520.specs.Command.{decodeOf}
 use Rattle.sed1520.specs.Cycle.{addressLine, writeLine, execute, commandWrite, stepOf, Reply, asStep}
 use Rattle.sed1520.specs.Memory.{ramLength}
-use Rattle.sed1520.specs.Records.{wholeRecords}
+use Rattle.sed1520.specs.Records.{front, wholeRecords}
 use Rattle.sed1520.specs.Replies.{InPlace, inPlace, nothingRun, tallied, answersLeft}
 use Rattle.sed1520.specs.declared.actions.Answer.{Answer}
 use Rattle.sed1520.specs.declared.bus.Record.{Record}
@@ -115,6 +115,12 @@ abbrev pub runLeading : ℕ → ℕ → List ℕ → List ℕ → List ℕ → L
 runLeading lines chip b ram trace answers =
     let rs = wholeRecords trace in
     runFirst bytesStep (leading (carries lines chip) rs) rs b ram answers
+
+-- by how many columns the data writes that a trace begins with moved a chip's column on, by the bytes of chips before and after, where that chip's begin
+-- at a place; 0 where the trace begins with another record
+abbrev pub columnsWritten : List ℕ → ℕ → List ℕ → List ℕ → ℕ
+columnsWritten trace start before after =
+    if (eqb (front trace .lines) 3) (getD after (start + 7) 0 - getD before (start + 7) 0) 0
 
 -- the records that a trace begins with and that run together, given to a step over so many bytes of chips and of RAM: number 1 where one of
 -- these lengths is wrong or the answers are under two bytes for each whole record of the trace; numbers 2 and 3 and the trace's limit are the

@@ -9,6 +9,7 @@ use Rattle.basics.specs.Choice.{if}
 use Rattle.basics.specs.Verdict.{Result, result}
 use Rattle.sed1520.specs.Cycle.{Reply}
 use Rattle.sed1520.specs.declared.bus.Record.{Record}
+use Rattle.sed1520.specs.declared.tally.Ran.{Ran}
 use Rattle.sed1520.specs.declared.tally.Tally.{Tally}
 
 -- whether an answer of this kind is compared with the byte that the recorder saw: kinds 1 and 3 are
@@ -63,6 +64,10 @@ nothingRun n at = tally n at 0 0
 -- the tally of a run that ended with a number: how many of the records were answered, and the counts over the replies
 abbrev pub tallied : ℕ → List Reply → List Record → Tally
 tallied n replies rs = tally n (length replies) (comparedIn replies) (differingIn replies rs)
+
+-- what records give back that move no column by a data write
+abbrev pub ranUnmoved : Tally → Ran
+ranUnmoved t = record { tally = t; moved = 0 }
 
 -- the answer buffer after replies: they stand at its front, and past them the bytes that were there
 abbrev pub answersLeft : List Reply → List ℕ → List ℕ

@@ -1,10 +1,10 @@
 // Records given to the 12 bytes of a chip and its own 320 bytes of RAM. Data writes that follow each other are one loop, and
 // so are data reads: each keeps what changes, the column and of reads the latch, in locals and stores it once, at the end.
-ghost use Prim.Native.Nat.{_+_, _*_, _/_, _≤_, _<_};
+ghost use Prim.Native.Nat.{_+_, _-_, _*_, _/_, _≤_, _<_};
 ghost use mathlib.Core.Path.{_≡_};
 ghost use mathlib.Core.Bool.{_&&_};
 ghost use lib.Dec.{ltb};
-ghost use lib.ListN.{length, drop};
+ghost use lib.ListN.{length, getD, drop};
 ghost use Rattle.basics.specs.Choice.{if};
 ghost use Rattle.basics.specs.Verdict.{result};
 ghost use Rattle.sed1520.specs.Chip.{columnStop};
@@ -12,7 +12,7 @@ ghost use Rattle.sed1520.specs.ChipBytes.{chipLength};
 ghost use Rattle.sed1520.specs.Memory.{ramLength};
 ghost use Rattle.sed1520.specs.Records.{front};
 ghost use Rattle.sed1520.specs.Replies.{inPlace, reply};
-ghost use Rattle.sed1520.specs.BytesRun.{carries, answeredAlone, runLeading, runBytes};
+ghost use Rattle.sed1520.specs.BytesRun.{carries, answeredAlone, columnsWritten, runLeading, runBytes};
 use crate::bus::RECORD_BYTES;
 use crate::bus::Record;
 use crate::bytes_command::write_command;
@@ -23,6 +23,7 @@ use crate::memory::load;
 use crate::memory::store;
 use crate::registers::Chip;
 use crate::tally::ANSWER_BYTES;
+use crate::tally::Ran;
 use crate::tally::Tally;
 use crate::tally::compares;
 use crate::tally::differs;
@@ -43,12 +44,13 @@ fn carried(trace: &[u8], n: usize, lines: u8, chip: u8) -> bool
 }
 
 // The data writes to a chip that a trace begins with.
-fn write_run(chip: u8, bytes: &mut [u8], ram: &mut [u8], trace: &[u8], answers: &mut [u8]) -> Tally
+fn write_run(chip: u8, bytes: &mut [u8], ram: &mut [u8], trace: &[u8], answers: &mut [u8]) -> Ran
     requires { ⌜ chip < 2 ⌝ }
     requires { ⌜ length (now bytes) ≡ chipLength ⌝ }
     requires { ⌜ 2 * (length (now trace) / 4) ≤ length (now answers) ⌝ }
-    ensures { λ r. ⌜ inPlace r (now (bytes .exit)) (now (ram .exit)) (now (answers .exit))
+    ensures ran { λ r. ⌜ inPlace (r .tally) (now (bytes .exit)) (now (ram .exit)) (now (answers .exit))
         ≡ runLeading 3 chip (now (bytes .entry)) (now (ram .entry)) (now (trace .entry)) (now (answers .entry)) ⌝ }
+    ensures moved { λ r. ⌜ r .moved ≡ getD (now (bytes .exit)) 7 0 - getD (now (bytes .entry)) 7 0 ⌝ }
 {
     let page = bytes[5];
     let mut column = bytes[7];
@@ -62,16 +64,18 @@ fn write_run(chip: u8, bytes: &mut [u8], ram: &mut [u8], trace: &[u8], answers: 
         answers[ANSWER_BYTES * n + 1] = 0;
         n = n + 1;
     }
+    let moved = column - bytes[7];
     if n != 0 {
         bytes[7] = column;
         bytes[9] = 0;
     }
-    Tally {
+    let tally = Tally {
         number: 0,
         place: n as u64,
         compared: 0,
         differing: 0,
-    }
+    };
+    Ran { tally, moved }
 }
 
 // The data reads of a chip that a trace begins with.
@@ -141,13 +145,14 @@ fn put_answer(bus: Record, kind: u8, byte: u8, answers: &mut [u8]) -> Tally
 }
 
 // The records that a trace begins with and that run together, where there is one and all lengths are right.
-fn run_first(bytes: &mut [u8], ram: &mut [u8], trace: &[u8], answers: &mut [u8]) -> Tally
+fn run_first(bytes: &mut [u8], ram: &mut [u8], trace: &[u8], answers: &mut [u8]) -> Ran
     requires { ⌜ length (now bytes) ≡ chipLength ⌝ }
     requires { ⌜ length (now ram) ≡ ramLength ⌝ }
     requires { ⌜ 2 * (length (now trace) / 4) ≤ length (now answers) ⌝ }
     requires { ⌜ 4 ≤ length (now trace) ⌝ }
-    ensures { λ r. ⌜ inPlace r (now (bytes .exit)) (now (ram .exit)) (now (answers .exit))
+    ensures ran { λ r. ⌜ inPlace (r .tally) (now (bytes .exit)) (now (ram .exit)) (now (answers .exit))
         ≡ runBytes (now (bytes .entry)) (now (ram .entry)) (now (trace .entry)) (now (answers .entry)) ⌝ }
+    ensures moved { λ r. ⌜ r .moved ≡ columnsWritten (now (trace .entry)) 0 (now (bytes .entry)) (now (bytes .exit)) ⌝ }
 {
     let bus = Record {
         lines: trace[0],
@@ -157,19 +162,22 @@ fn run_first(bytes: &mut [u8], ram: &mut [u8], trace: &[u8], answers: &mut [u8])
     };
     let number = bus.refusal();
     if number != 0 {
-        return Tally::nothing_run(number, 0);
+        return Ran::unmoved(Tally::nothing_run(number, 0));
     }
     let lines = bus.lines;
     match lines {
         3 => write_run(bus.chip, bytes, ram, trace, answers),
-        5 => read_run(bus.chip, bytes, ram, trace, answers),
-        4 => put_answer(bus, 3, registers_in(bytes).status_byte(), answers),
+        5 => Ran::unmoved(read_run(bus.chip, bytes, ram, trace, answers)),
+        4 => {
+            let status = registers_in(bytes).status_byte();
+            Ran::unmoved(put_answer(bus, 3, status, answers))
+        }
         _ => {
             let refused = write_command(bytes, bus.byte);
             if refused != 0 {
-                return Tally::nothing_run(refused, 0);
+                return Ran::unmoved(Tally::nothing_run(refused, 0));
             }
-            put_answer(bus, 0, 0, answers)
+            Ran::unmoved(put_answer(bus, 0, 0, answers))
         }
     }
 }
@@ -183,21 +191,22 @@ pub fn run_of_tested_bytes(
     ram: &mut [u8],
     trace: &[u8],
     answers: &mut [u8],
-) -> Tally
-    ensures { λ r. ⌜ inPlace r (now (bytes .exit)) (now (ram .exit)) (now (answers .exit))
+) -> Ran
+    ensures ran { λ r. ⌜ inPlace (r .tally) (now (bytes .exit)) (now (ram .exit)) (now (answers .exit))
         ≡ runBytes (now (bytes .entry)) (now (ram .entry)) (now (trace .entry)) (now (answers .entry)) ⌝ }
+    ensures moved { λ r. ⌜ r .moved ≡ columnsWritten (now (trace .entry)) 0 (now (bytes .entry)) (now (bytes .exit)) ⌝ }
 {
     if bytes.len() != CHIP_BYTES {
-        return Tally::nothing_run(1, 0);
+        return Ran::unmoved(Tally::nothing_run(1, 0));
     }
     if ram.len() != Chip::RAM_WIDTH {
-        return Tally::nothing_run(1, 0);
+        return Ran::unmoved(Tally::nothing_run(1, 0));
     }
     if answers.len() / ANSWER_BYTES < trace.len() / RECORD_BYTES {
-        return Tally::nothing_run(1, 0);
+        return Ran::unmoved(Tally::nothing_run(1, 0));
     }
     if trace.len() < RECORD_BYTES {
-        return Tally::nothing_run(0, 0);
+        return Ran::unmoved(Tally::nothing_run(0, 0));
     }
     run_first(bytes, ram, trace, answers)
 }

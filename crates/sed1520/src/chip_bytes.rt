@@ -8,6 +8,11 @@ use crate::registers::ReadLatch;
 // How many bytes a chip is.
 pub const CHIP_BYTES: usize = 12;
 
+// The places of the page and of the column among them.
+pub const PAGE_BYTE: usize = 5;
+
+pub const COLUMN_BYTE: usize = 7;
+
 // A flag as a byte.
 pub(crate) fn bit(flag: bool) -> u8
     ensures { λ r. ⌜ r ≡ bit flag ⌝ }

@@ -2,7 +2,7 @@
 ghost use mathlib.Core.Path.{_≡_};
 ghost use lib.Dec.{eqb};
 ghost use Rattle.basics.specs.Choice.{if};
-ghost use Rattle.sed1520.specs.Replies.{isCompared, nothingRun};
+ghost use Rattle.sed1520.specs.Replies.{isCompared, nothingRun, ranUnmoved};
 
 // The bytes of a record's answer.
 pub const ANSWER_BYTES: usize = 2;
@@ -27,6 +27,22 @@ impl Tally {
             compared: 0,
             differing: 0,
         }
+    }
+}
+
+// What records that run together give back: their tally, and by how many columns data writes moved the column on, which is
+// how many bytes these stored to.
+pub struct Ran {
+    pub tally: Tally,
+    pub moved: u8,
+}
+
+impl Ran {
+    // No column moved by a data write.
+    pub fn unmoved(tally: Tally) -> Ran
+        ensures { λ r. ⌜ r ≡ ranUnmoved tally ⌝ }
+    {
+        Ran { tally, moved: 0 }
     }
 }
 

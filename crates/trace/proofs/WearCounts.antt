@@ -60,6 +60,11 @@ pub none-worn : (wear : List ℕ) (answers : List Reply) → length wear ≡ 0 �
 unfolding worn
 none-worn wear answers none = tabulated-is _ 0 (length wear) wear refl (λ i h. absurd (omega arith))
 
+-- answers that store nowhere, nothing counted
+pub worn-unstored : (wear : List ℕ) (answers : List Reply) → ((i : ℕ) → storesTo i answers ≡ 0) → wear ≡ worn wear answers
+unfolding worn
+worn-unstored wear answers none = tabulated-is _ 0 (length wear) wear refl (λ i _. omega (arith, none i))
+
 -- places counted one by one are the stores of answers that store to each of them once
 pub raised-worn : (wear : List ℕ) (from to : ℕ) (answers : List Reply) → ((i : ℕ) → storesTo i answers ≡ if (liesIn from to i) 1 0)
     → raised wear from to ≡ worn wear answers
@@ -112,8 +117,8 @@ none-counted n i =
 
 -- no answers, nothing is counted
 pub worn-none : (wear : List ℕ) → wear ≡ worn wear []
-unfolding worn storesTo
-worn-none wear = tabulated-is _ 0 (length wear) wear refl (λ i _. omega arith)
+unfolding storesTo
+worn-none wear = worn-unstored wear [] (λ i. refl)
 
 pub worn-bound : (most : ℕ) (wear : List ℕ) (answers : List Reply) → AtMost most wear → AtMost (most + length answers) (worn wear answers)
 unfolding worn

@@ -326,7 +326,7 @@ impl Feed {
         let progress = self.progress;
         let ending = progress.ending;
         match ending {
-            Ending::Stopped(number, place) => reported(self, number, place as u64),
+            Ending::Stopped(number, at) => reported(self, number, at as u64),
             Ending::Open => reported(self, 1, 0),
         }
     }

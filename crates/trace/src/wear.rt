@@ -9,7 +9,11 @@ ghost use Rattle.panel.specs.Trace.{traceLimit};
 ghost use Rattle.sed1520.specs.Replies.{inPlace};
 ghost use Rattle.trace.specs.Wear.{AtMost, raised, worn, repliesTogether};
 use panel::step::run_of_tested_chips;
-use panel::step::write_place;
+use panel::step::start_of;
+use sed1520::chip_bytes::CHIP_BYTES;
+use sed1520::chip_bytes::COLUMN_BYTE;
+use sed1520::chip_bytes::PAGE_BYTE;
+use sed1520::memory::image_index;
 use sed1520::tally::Tally;
 
 // Every count 0.
@@ -37,7 +41,8 @@ fn count_stores(wear: &mut [u32], from: usize, to: usize)
 }
 
 // The records that a trace begins with and that run together, and the bytes that they stored to counted. Data writes to one
-// chip store to the bytes from where the first of them stands up to where the next would.
+// chip store to the bytes up to where the next would, as many as they moved the column on. Without wear this must cost
+// nothing, so only the run of data writes is looked at, once it has ended.
 pub(crate) fn run_counting(
     chips: &mut [u8],
     ram: &mut [u8],
@@ -54,15 +59,18 @@ pub(crate) fn run_counting(
     ensures wear { λ _. ⌜ now (wear .exit)
         ≡ worn (now (wear .entry)) (repliesTogether (now (chips .entry)) (now (ram .entry)) (now (trace .entry))) ⌝ }
 {
-    let from = if wear.len() == 0 {
-        0
-    } else {
-        write_place(chips, trace)
-    };
+    let lines = trace[0];
     let went = run_of_tested_chips(chips, ram, trace, answers);
-    if wear.len() != 0 {
-        let to = write_place(chips, trace);
-        count_stores(wear, from, to);
+    let tally = went.tally;
+    if lines != 3 {
+        return tally;
     }
-    went
+    if wear.len() == 0 {
+        return tally;
+    }
+    let chip = trace[1];
+    let own = start_of(chip, CHIP_BYTES);
+    let to = image_index(chip, chips[own + PAGE_BYTE], chips[own + COLUMN_BYTE]);
+    count_stores(wear, to - (went.moved as usize), to);
+    tally
 }

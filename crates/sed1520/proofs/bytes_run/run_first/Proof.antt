@@ -17,6 +17,7 @@ use Rattle.sed1520.specs.declared.tally.Tally.{Tally}
 use Rattle.sed1520.proofs.BytesSteps.{accepted as accepted-as, refused-step, status-step, command-number, command-step}
 use Rattle.sed1520.proofs.StepCases.{asks}
 use Rattle.sed1520.proofs.TogetherCases.{refused-first, runs-alone, leading-runs}
+use Rattle.sed1520.proofs.ColumnsWritten.{none-moved, others-move}
 use Rattle.sed1520.proofs.bytes_run.run_first.Statement.{statement}
 use Rattle.sed1520.proofs.bytes_run.run_first.Tie as tie
 
@@ -64,10 +65,13 @@ of-leading c is-data =
 
 returns : tie.Need-returns
 returns c =
-    let asked = c .before .before in
-    let nonzero : busRefusal (bus asked) ≡ 0 → ⊥ = λ e. c .before .if1 .taken (asked .refusal .ensures ∙ e) in
-    let number = refused-step (withRam (b asked) (ram asked)) (bus asked) nonzero in
-    rw (c .nothing-run .ensures, asked .refusal .ensures, ← number) (sym (refused asked (λ e. nonzero (sym number ∙ e))))
+    let none = c .before in
+    let asked = none .before .before in
+    let nonzero : busRefusal (bus asked) ≡ 0 → ⊥ = λ e. none .before .if1 .taken (asked .refusal .ensures ∙ e) in
+    let number = refused-step (withRam (b asked) (ram asked)) (bus asked) nonzero in (
+      rw (c .unmoved .ensures, none .nothing-run .ensures, asked .refusal .ensures, ← number) (sym (refused asked (λ e. nonzero (sym number ∙ e)))),
+      rw (c .unmoved .ensures) (none-moved (trace asked) 0 (b asked)),
+    )
 
 write-run-requires : tie.Need-write-run-requires
 write-run-requires c κs =
@@ -87,45 +91,55 @@ command c = let asked = asks (bus (c .before .before)) (accepted (c .before)) in
 
 returns-2 : tie.Need-returns-2
 returns-2 c =
-    let written = c .before .before .before .before in
+    let none = c .before in
+    let written = none .before .before .before .before in
     let passed = written .before .before .before in
     let s = passed .before in
     let number = command-number (withRam (b s) (ram s)) (bus s) (accepted passed) (command (written .before .before)) in
     let given = written .write-command .ensures .0 in
-    let nonzero : commandWrite (bus s .byte) (registersIn (b s)) .number ≡ 0 → ⊥ = λ e. c .before .if2 .taken (given ∙ e) in
-    rw (c .nothing-run2 .ensures, written .write-command .ensures .1, ne-eqb _ 0 nonzero)
-    (ap (λ n. inPlace (nothingRun n 0) (b s) (ram s) (answers s)) (given ∙ sym number) ∙ sym (refused s (λ e. nonzero (sym number ∙ e))))
+    let nonzero : commandWrite (bus s .byte) (registersIn (b s)) .number ≡ 0 → ⊥ = λ e. none .before .if2 .taken (given ∙ e) in
+    let lines = command (written .before .before) in (
+      rw (c .unmoved4 .ensures, none .nothing-run2 .ensures, written .write-command .ensures .1, ne-eqb _ 0 nonzero)
+          (ap (λ n. inPlace (nothingRun n 0) (b s) (ram s) (answers s)) (given ∙ sym number) ∙ sym (refused s (λ e. nonzero (sym number ∙ e)))),
+      rw (c .unmoved4 .ensures) (others-move (trace s) 0 (b s) (written .write-command .last .0) (λ e. absurd (omega (arith, lines, e)))),
+    )
 
 returns-3 : tie.Need-returns-3
 returns-3 c =
     let ran = c .before .before .before .before .before .before in
     let arm = ran .before .before .before .before in
     let lines = arm .match .keys1 in
-    ran .write-run .ensures ∙ sym (rw lines at (of-leading (arm .before) (rw lines)))
+    (ran .write-run .ensures .0 ∙ sym (rw lines at (of-leading (arm .before) (rw lines))), rw lines (ran .write-run .ensures .1))
 
 returns-4 : tie.Need-returns-4
 returns-4 c =
-    let ran = c .before .before .before .before in
+    let ran = c .before .before .before .before .before in
     let arm = ran .before .before .before .before in
-    let lines = arm .match .keys2 in
-    ran .read-run .ensures ∙ sym (rw lines at (of-leading (arm .before) (rw lines)))
+    let s = arm .before .before in
+    let lines = arm .match .keys2 in (
+      rw (c .unmoved2 .ensures) (ran .read-run .ensures ∙ sym (rw lines at (of-leading (arm .before) (rw lines)))),
+      rw (c .unmoved2 .ensures) (others-move (trace s) 0 (b s) (ran .read-run .last .1 .0) (λ e. absurd (omega (arith, lines, e)))),
+    )
 
 returns-5 : tie.Need-returns-5
 returns-5 c =
-    let put = c .before .before in
+    let put = c .before .before .before in
     let read = put .before .before in
     let arm = read .before .before .before in
     let passed = arm .before in
     let s = passed .before in
     let lines = arm .match .keys3 in
     let status = read .status-byte .ensures ∙ ap statusByte (read .before .registers-in .ensures) in
-    let answered = rw status at (put .put-answer .ensures) in
-    ap (λ (o : Result Tally (List ℕ)). inPlace (o .answer) (b s) (ram s) (o .lent)) answered
-    ∙ sym (by-itself s (rw lines) _ _ (status-step (withRam (b s) (ram s)) (bus s) (accepted passed) lines))
+    let answered = rw status at (put .put-answer .ensures) in (
+      rw (c .unmoved3 .ensures)
+          (ap (λ (o : Result Tally (List ℕ)). inPlace (o .answer) (b s) (ram s) (o .lent)) answered
+          ∙ sym (by-itself s (rw lines) _ _ (status-step (withRam (b s) (ram s)) (bus s) (accepted passed) lines))),
+      rw (c .unmoved3 .ensures) (none-moved (trace s) 0 (b s)),
+    )
 
 returns-6 : tie.Need-returns-6
 returns-6 c =
-    let put = c .before .before in
+    let put = c .before .before .before in
     let tested = put .before .before in
     let written = tested .before .before .before in
     let arm = written .before .before in
@@ -133,10 +147,12 @@ returns-6 c =
     let s = passed .before in
     let lines = command arm in
     let done = sym (written .write-command .ensures .0) ∙ tested .if2 .left in
-    let step = command-step (withRam (b s) (ram s)) (bus s) (accepted passed) lines done in
-    rw (written .write-command .ensures .1)
-    (ap (λ (o : Result Tally (List ℕ)). inPlace (o .answer) (commandBytes (bus s .byte) (b s)) (ram s) (o .lent)) (put .put-answer2 .ensures)
-    ∙ sym (by-itself s (rw lines) _ _ step))
+    let step = command-step (withRam (b s) (ram s)) (bus s) (accepted passed) lines done in (
+      rw (c .unmoved5 .ensures, written .write-command .ensures .1)
+          (ap (λ (o : Result Tally (List ℕ)). inPlace (o .answer) (commandBytes (bus s .byte) (b s)) (ram s) (o .lent)) (put .put-answer2 .ensures)
+          ∙ sym (by-itself s (rw lines) _ _ step)),
+      rw (c .unmoved5 .ensures) (others-move (trace s) 0 (b s) (written .write-command .last .0) (λ e. absurd (omega (arith, lines, e)))),
+    )
 
 pub run-first-spec : {M : Type 1} → statement M
 run-first-spec =
@@ -148,6 +164,7 @@ run-first-spec =
     (λ c. search needs)
     (λ c κs. search needs)
     (λ c κs. search needs)
+    (λ c κs. search needs)
     returns
     write-run-requires
     read-run-requires
@@ -156,8 +173,12 @@ run-first-spec =
     (λ c κs. search needs)
     (λ c κs. search needs)
     (λ c κs. search needs)
+    (λ c κs. search needs)
+    (λ c κs. search needs)
+    (λ c κs. search needs)
     (λ c. search needs)
     returns-2
+    (λ c κs. search needs)
     (λ c κs. search needs)
     (λ c. search needs)
     (λ c. search needs)

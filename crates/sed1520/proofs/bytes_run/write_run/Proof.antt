@@ -1,11 +1,12 @@
 -- `sed1520::bytes_run::write_run` meets its contract: before each record, the bytes are those at the start with the column counted on and, past the
 -- first record, the latch's mark 0.
-use Prim.Native.Nat.{ℕ, _+_, _-_, _*_, _/_, _<_}
+use Prim.Native.Nat.{ℕ, _+_, _-_, _*_, _/_, _<_, _≤_}
 use native.Mathlib.Omega.{arith}
 use mathlib.Core.Path.{_≡_, refl, sym, ap, _∙_}
 use mathlib.Core.List.{List}
 use mathlib.Core.Logic.{⊎-elim}
 use lib.ListN.{length, getD, set, length-set}
+use lib.Seq.{getD-set-same, getD-set-other}
 use borrow.Author.Needs.{needs}
 use Rattle.sed1520.specs.BytesRun.{BytesAndRam, withRam, runLeading}
 use Rattle.sed1520.specs.Replies.{InPlace, inPlace, nothingRun}
@@ -19,6 +20,8 @@ use Rattle.sed1520.proofs.bytes_run.write_run.Tie as tie
 record Writing (k : ℕ) (b ram₀ trace buffer : List ℕ) (ram answers : List ℕ) (column n : ℕ) : Type 0 where
   mark : ℕ
   stale : (n ≡ 0 → ⊥) → mark ≡ 0
+  grown : getD b 7 0 ≤ column
+  begun : n ≡ 0 → column ≡ getD b 7 0
   kept : length ram ≡ length ram₀
   upto : Upto 3 k (withRam b ram₀) trace buffer n (withRam (set (set b 7 column) 9 mark) ram) answers 0 0
 
@@ -42,6 +45,8 @@ loop-holds c =
     record {
       mark = getD (at .bytes .now) 9 0;
       stale = λ h. absurd (h refl);
+      grown = omega arith;
+      begun = λ _. refl;
       kept = refl;
       upto = rw (as-written (at .bytes .now) (begin .pre .1 .0)) (started 3 (at .chip) _ (at .trace .now) (at .answers .now));
     }
@@ -67,6 +72,8 @@ loop-again c =
     (λ h. record {
       mark = 0;
       stale = λ _. refl;
+      grown = omega (arith, inv .grown, h .7);
+      begun = λ none. absurd (omega arith);
       kept = rw (h .6, h .3 .ensures) (simp length-set (inv .kept));
       upto =
           rw (h .6, h .7, h .3 .ensures)
@@ -75,6 +82,8 @@ loop-again c =
     (λ h. record {
       mark = 0;
       stale = λ _. refl;
+      grown = omega (arith, inv .grown, h .2);
+      begun = λ none. absurd (omega arith);
       kept = rw (h .1) (inv .kept);
       upto =
           rw (h .1, h .2)
@@ -93,15 +102,21 @@ whole c = ends (c .before .before .loop .inv .upto) (sym (c .before .carried .en
 
 returns : tie.Need-returns Inv-loop μ-loop
 returns c =
-    let test = c .before in
+    let test = c .before .before in
     let loop = test .before .before .loop in
-    let b = start (test .before .before) .args .bytes .now in
-    ap (λ m. left test (set (set b 7 (loop .column)) 9 m)) (sym (loop .inv .stale (c .if3 .taken))) ∙ whole test
+    let begin = start (test .before .before) in
+    let b = begin .args .bytes .now in
+    let stands = getD-set-other (set b 7 (loop .column)) 9 7 0 0 (λ e. absurd (omega arith))
+    ∙ getD-set-same b 7 (loop .column) 0 (omega (arith, begin .pre .1 .0)) in
+    (ap (λ m. left test (set (set b 7 (loop .column)) 9 m)) (sym (loop .inv .stale (c .if3 .taken))) ∙ whole test, rw stands)
 
 returns-2 : tie.Need-returns-2 Inv-loop μ-loop
 returns-2 c =
-    let test = c .before in
-    ap (λ (u : BytesAndRam). left test (u .bytes)) (sym (unmoved (test .before .before .loop .inv .upto) (c .if3 .left))) ∙ whole test
+    let test = c .before .before in
+    let inv = test .before .before .loop .inv in (
+      ap (λ (u : BytesAndRam). left test (u .bytes)) (sym (unmoved (inv .upto) (c .if3 .left))) ∙ whole test,
+      omega (arith, inv .begun (c .if3 .left)),
+    )
 
 pub write-run-spec : {M : Type 1} → statement M
 write-run-spec =
@@ -127,11 +142,13 @@ write-run-spec =
     loop-less
     loop-again
     (λ c. search needs)
+    (λ c. omega (arith, c .before .before .before .loop .inv .grown))
+    (λ c. search needs)
     (λ c. search needs)
     (λ c. simp length-set)
-    (λ c. c .before .before .before .loop .inv .kept)
-    (λ c. buffered (c .before .before .before .loop .inv .upto) (start (c .before .before .before) .pre .1 .1))
+    (λ c. c .before .before .before .before .loop .inv .kept)
+    (λ c. buffered (c .before .before .before .before .loop .inv .upto) (start (c .before .before .before .before) .pre .1 .1))
     returns
-    (λ c. c .before .before .before .loop .inv .kept)
-    (λ c. buffered (c .before .before .before .loop .inv .upto) (start (c .before .before .before) .pre .1 .1))
+    (λ c. c .before .before .before .before .loop .inv .kept)
+    (λ c. buffered (c .before .before .before .before .loop .inv .upto) (start (c .before .before .before .before) .pre .1 .1))
     returns-2)

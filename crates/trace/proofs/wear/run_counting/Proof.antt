@@ -1,55 +1,76 @@
--- `trace::wear::run_counting` meets its contract: with wear, what the records stored to is counted; with none, nothing is.
+-- `trace::wear::run_counting` meets its contract: no record but a data write stores, without wear nothing is counted, and else what was stored to is
+-- counted.
+use Prim.Native.Nat.{_≤_}
 use native.Mathlib.Omega.{arith}
 use mathlib.Core.Path.{_≡_, _∙_}
-use mathlib.Core.Logic.{⊎-elim}
-use lib.ListN.{length}
+use lib.ListN.{length, getD}
 use borrow.Author.Needs.{needs}
-use Rattle.panel.specs.Step.{writePlace}
+use Rattle.basics.proofs.Halves.{start-within}
 use Rattle.trace.proofs.WearCounts.{none-worn}
-use Rattle.trace.proofs.WearRuns.{counted}
+use Rattle.trace.proofs.WearRuns.{enough, counted, not-counted}
 use Rattle.trace.proofs.wear.run_counting.Statement.{statement}
 use Rattle.trace.proofs.wear.run_counting.Tie as tie
 
--- the run, from past what it gives back; the test of the wear before it; the start
-abbrev ran : tie.After-slice-known7 → tie.After-run-of-tested-chips
-ran c = c .before .before .before .before .before .before
+-- the run, from past what it gives back; and the start
+abbrev ran : tie.After-tally → tie.After-run-of-tested-chips
+ran c = c .before .before .before .before .before .before .before
 
-abbrev tested : tie.After-run-of-tested-chips → tie.Joined1
-tested c = c .before .before .before .before
+abbrev start : tie.After-run-of-tested-chips → tie.Start
+start c = c .before .before .before .before .before .before .before .before .before .before
 
-abbrev start : tie.Joined1 → tie.Start
-start c = c .before .before .before .before .before .before
+-- past the tests, with the chip's start
+abbrev tested : tie.After-start-of → tie.Else2
+tested c = c .before .before
 
--- with wear, the place before the run
-from : (c : tie.Joined1) → let at = start c .args in (length (at .wear .now) ≡ 0 → ⊥) → c .if1 .from ≡ writePlace (at .chips .now) (at .trace .now)
-from c some = ⊎-elim (λ h. absurd (some (h .0 .taken))) (λ h. h .3 ∙ h .2 .ensures) (c .if1 .came)
+abbrev went : tie.After-start-of → tie.After-run-of-tested-chips
+went c = ran (tested c .before .before)
+
+-- the chip's bytes begin within those of both
+within : (c : tie.After-start-of) → (c .start-of .result ≤ 12) × (length (went c .run-of-tested-chips .last .0) ≡ 24)
+within c = (
+  start-within 12 (getD (start (went c) .args .trace .now) 1 0) _ (c .start-of .ensures),
+  went c .run-of-tested-chips .kept .0 ∙ start (went c) .pre .0 .size,
+)
 
 returns : tie.Need-returns
 returns c =
-    let counting = c .before .before in
-    let to = counting .before .before in
-    let some = to .before .before in
-    let went = ran (some .before) in
-    let begin = start (tested went) in
-    let e = went .run-of-tested-chips .ensures in (
-      e,
-      counting .count-stores .ensures
-          ∙ rw (from (tested went) (some .if2 .taken), to .write-place2 .ensures)
-          (counted (begin .pre .0) _ _ (begin .pre .1 .0) (begin .pre .1 .1 .0) e (begin .args .wear .now)),
-    )
+    let ended = ran (c .before) in
+    let given = start ended .pre in
+    let e = ended .run-of-tested-chips .ensures in
+    (e .0, not-counted (given .0) _ _ (given .1 .0) (given .1 .1 .0) (e .0) (c .if1 .taken) (start ended .args .wear .now))
 
 returns-2 : tie.Need-returns-2
-returns-2 c = (ran (c .before) .run-of-tested-chips .ensures, none-worn _ _ (omega (arith, c .if2 .left)))
+returns-2 c = (ran (c .before .before) .run-of-tested-chips .ensures .0, none-worn _ _ (omega (arith, c .if2 .taken)))
+
+sub-count-stores : tie.Need-sub-count-stores
+sub-count-stores c =
+    let index = c .before .before in
+    let own = index .before .before .before in
+    let given = start (went own) .pre in
+    let e = went own .run-of-tested-chips .ensures in
+    let most = enough (given .0) _ _ (given .1 .0) (given .1 .1 .0) (e .0) _ (own .start-of .ensures) _ (e .1) (omega (arith, tested own .before .if1 .left)) in
+    omega (arith, most, index .image-index .ensures)
+
+returns-3 : tie.Need-returns-3
+returns-3 c =
+    let counting = c .before .before in
+    let index = counting .before .before .before in
+    let own = index .before .before .before in
+    let given = start (went own) .pre in
+    let e = went own .run-of-tested-chips .ensures in (
+      e .0,
+      counting .count-stores .ensures
+          ∙ rw (index .image-index .ensures)
+          (counted (given .0) _ _ (given .1 .0) (given .1 .1 .0) (e .0) _ (own .start-of .ensures) _ (e .1) (start (went own) .args .wear .now)
+          (omega (arith, tested own .before .if1 .left))),
+    )
 
 pub run-counting-spec : {M : Type 1} → statement M
 run-counting-spec =
     tie.close
     (tie.spec
+    (λ c. omega (arith, c .before .before .before .before .before .before .pre .1 .1 .0))
     (λ c κs. search needs)
-    (λ c κs. search needs)
-    (λ c κs. search needs)
-    (λ c κs. search needs)
-    (λ c. search needs)
     (λ c. search needs)
     (λ c. search needs)
     (λ c. search needs)
@@ -57,4 +78,19 @@ run-counting-spec =
     (λ c. search needs)
     (λ c. search needs)
     (λ c. search needs)
-    returns-2)
+    returns-2
+    (λ c. omega (arith, start (ran (c .before .before .before)) .pre .1 .1 .0))
+    (λ c κs. search needs)
+    (λ c. omega (arith, within c .0))
+    (λ c. omega (arith, within (c .before) .0, within (c .before) .1))
+    (λ c. omega (arith, within (c .before) .0))
+    (λ c. omega (arith, within (c .before .before) .0, within (c .before .before) .1))
+    (λ c κs. search needs)
+    (λ c. search needs)
+    sub-count-stores
+    (λ c κs. start (went (c .before .before .before .before .before)) .pre .1 .1 .1)
+    (λ c. search needs)
+    (λ c. search needs)
+    (λ c. search needs)
+    (λ c. search needs)
+    returns-3)
