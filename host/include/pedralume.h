@@ -79,7 +79,7 @@ extern "C" {
  * change. The number is for #if: 1.2.3 is 10203.
  */
 #define PEDRALUME_VERSION_MAJOR 1
-#define PEDRALUME_VERSION_MINOR 1
+#define PEDRALUME_VERSION_MINOR 2
 #define PEDRALUME_VERSION_PATCH 0
 
 #define PEDRALUME_VERSION_NUMBER \
