@@ -31,14 +31,14 @@ use Rattle.panel.proofs.StoreRuns.{stores-none, stores-first}
 image-start : (k : ℕ) → k < 2 → partStart 320 k ≡ 320 * k
 image-start k h = ⊎-elim (λ t. let e = eqb-true k 0 t in rw t (omega arith)) (λ t. let d = eqb-false k 0 t in rw t (omega arith)) (tested (eqb k 0))
 
-module _ (p : Panel) (whole : Whole p) (r : Record) where
+module _ (p : Panel) (image : length (p .ram) ≡ 640) (r : Record) where
   byte-stored : (i : ℕ) → storedIndex (outcomeOf p r .answer .stored) ≡ some i → (i < 640) × (stepped p r .ram ≡ set (p .ram) i (r .byte))
   unfolding stepped outcomeOf
   byte-stored i e =
       let c = chipAt p (r .chip) in
       let at = ramIndex (c .page) (c .column) in
       let said = byte-set r c (ramAt p (r .chip)) i e in
-      let half = every-half-whole p (whole .image) (r .chip) in
+      let half = every-half-whole p image (r .chip) in
       let within : at < 320 = omega (arith, said .within, half) in
       let start = image-start (r .chip) (said .chip) in
       let where-set : partStart 320 (r .chip) + at ≡ i = omega (arith, start, said .index) in
@@ -50,9 +50,10 @@ module _ (p : Panel) (whole : Whole p) (r : Record) where
       let says = every-cycle-says r (chipAt p (r .chip)) (ramAt p (r .chip)) in
       record {
         accepted = says .accepted;
+        refused = says .refused;
         nothing = λ e. rw (says .nothing e) (same-back 320 (r .chip) (p .ram));
         byte = λ i e. let stored = byte-stored i e in
-            (stored .0, rw (stored .1) (one-stored i (r .byte) (p .ram) (omega (arith, stored .0, whole .image))));
+            (stored .0, rw (stored .1) (one-stored i (r .byte) (p .ram) (omega (arith, stored .0, image))));
       }
 
 pub every-record-says : EveryRecordSays
@@ -70,7 +71,7 @@ unfolding writesFinding
 all-stores [] p whole = rw (run-none panelStep p) (sum-zeros _ 640 (λ i _. stores-none i))
 all-stores (r ∷ rs) p whole =
     ⊎-elim
-    (λ t. let says = record-says p whole r in
+    (λ t. let says = record-says p (whole .image) r in
     let said = says .accepted (eqb-true (outcomeOf p r .answer .number) 0 t) in
     let finds = findsColumn r (chipAt p (r .chip)) in
     let rest = panelRun (stepped p r) rs .answers in

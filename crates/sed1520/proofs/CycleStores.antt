@@ -7,7 +7,7 @@ use mathlib.Core.List.{List}
 use mathlib.Core.Logic.{⊎-elim}
 use mathlib.Core.Option.{Option, none, some, Option·some-injective, Option·none-ne-some}
 use lib.Dec.{eqb, ltb}
-use lib.ListN.{length, set}
+use lib.ListN.{length, set, length-set}
 use lib.Seq.{getD-set-same, getD-set-other}
 use borrow.Author.Tests.{eq-eqb, eqb-true, eqb-false, ltb-true}
 use Rattle.basics.specs.Choice.{if}
@@ -26,7 +26,7 @@ use Rattle.sed1520.proofs.StepCases.{asks, action-data-write, step-acti
 
 -- a byte set is one byte stored
 pub one-stored : (at b : ℕ) (ram : List ℕ) → at < length ram → OneStored at b ram (set ram at b)
-one-stored at b ram within = record { holds = getD-set-same ram at b 0 within; others = λ j apart. getD-set-other ram at j b 0 apart }
+one-stored at b ram within = record { size = length-set ram at b; holds = getD-set-same ram at b 0 within; others = λ j apart. getD-set-other ram at j b 0 apart }
 
 module _ (r : Record) (c : Chip) (ram : List ℕ) where
   -- an accepted record passed numbers 1, 2 and 4 to 6
@@ -115,6 +115,7 @@ module _ (r : Record) (c : Chip) (ram : List ℕ) where
     pub record ByteSet (after : List ℕ) : Type 0 where
       pub index : i ≡ imageIndex (r .chip) (c .page) (c .column)
       pub chip : r .chip < 2
+      pub size : length ram ≡ 320
       pub within : ramIndex (c .page) (c .column) < length ram
       pub written : after ≡ byteSet ram (c .page) (c .column) (r .byte)
 
@@ -134,6 +135,7 @@ module _ (r : Record) (c : Chip) (ram : List ℕ) where
               record {
                 index = sym (Option·some-injective (imageIndex (r .chip) (c .page) (c .column)) i e);
                 chip = asks r (pass .asked) .chip;
+                size = pass .size;
                 within = omega (arith, near, pass .size);
                 written = refl;
               })
@@ -152,7 +154,12 @@ module _ (r : Record) (c : Chip) (ram : List ℕ) where
     byte : said ≡ some i → SaidByte r c ram (cycleOf r c ram .ram) i
     byte e =
         let set = byte-set e in
-        record { index = set .index; within = set .within; stored = rw (set .written) (one-stored _ (r .byte) ram (set .within)) }
+        record {
+          index = set .index;
+          in-image = omega (arith, set .index, set .chip, set .within, set .size);
+          within = set .within;
+          stored = rw (set .written) (one-stored _ (r .byte) ram (set .within));
+        }
 
 pub every-cycle-says : EveryCycleSays
 every-cycle-says r c ram = record { accepted = accepted r c ram; refused = refused r c ram; nothing = nothing r c ram; byte = byte r c ram }

@@ -116,8 +116,8 @@ runLeading lines chip b ram trace answers =
     let rs = wholeRecords trace in
     runFirst bytesStep (leading (carries lines chip) rs) rs b ram answers
 
--- by how many columns the data writes that a trace begins with moved a chip's column on, by the bytes of chips before and after, where that chip's begin
--- at a place; 0 where the trace begins with another record
+-- how many columns the data writes that a trace begins with moved a chip on: its column byte after less the one before, the chip's bytes beginning at
+-- `start`; 0 where the trace begins with another record
 abbrev pub columnsWritten : List ℕ → ℕ → List ℕ → List ℕ → ℕ
 columnsWritten trace start before after =
     if (eqb (front trace .lines) 3) (getD after (start + 7) 0 - getD before (start + 7) 0) 0

@@ -65,7 +65,7 @@ nothingRun n at = tally n at 0 0
 abbrev pub tallied : ℕ → List Reply → List Record → Tally
 tallied n replies rs = tally n (length replies) (comparedIn replies) (differingIn replies rs)
 
--- what records give back that move no column by a data write
+-- what a run gives back in which no data write moved the column
 abbrev pub ranUnmoved : Tally → Ran
 ranUnmoved t = record { tally = t; moved = 0 }
 

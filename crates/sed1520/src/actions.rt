@@ -106,10 +106,10 @@ impl Chip {
         Answer::done(0, 0, self.execute(command))
     }
 
-    // A data write to this chip, which has a number. It leaves the latch stale at any column; from column 80 on nothing is
-    // stored.
-    pub(crate) fn data_write(self, number: u8, byte: u8, ram: &mut [u8]) -> Answer
-        ensures { λ r. ⌜ outcome r (now (ram .exit)) ≡ dataWrite number byte self (now (ram .entry)) ⌝ }
+    // A data write; the record's chip number gives the index of the byte stored to. It leaves the latch stale at any column;
+    // from column 80 on nothing is stored.
+    pub(crate) fn data_write(self, chip: u8, byte: u8, ram: &mut [u8]) -> Answer
+        ensures { λ r. ⌜ outcome r (now (ram .exit)) ≡ dataWrite chip byte self (now (ram .entry)) ⌝ }
     {
         let mut next = self.staled();
         if Chip::COLUMN_STOP <= self.column {
@@ -117,7 +117,7 @@ impl Chip {
         }
         store(ram, self.page, self.column, byte);
         next.column = self.column + 1;
-        Answer::wrote_to(image_index(number, self.page, self.column), next)
+        Answer::wrote_to(image_index(chip, self.page, self.column), next)
     }
 
     // The chip after a data read: below column 80 the latch is loaded from the addressed byte and the column counted

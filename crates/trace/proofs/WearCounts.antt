@@ -55,6 +55,10 @@ module _ {wear₀ : List ℕ} {from : ℕ} {wear : List ℕ} {at : ℕ} (held : 
   unfolding raised
   raise-all to same = tabulated-is _ 0 (length wear₀) wear (held .size) (λ i h. held .counts i h ∙ rw (same i h))
 
+-- no place, nothing counted
+pub raised-none : (wear : List ℕ) (at : ℕ) → raised wear at at ≡ wear
+raised-none wear at = sym (raise-all (raise-none wear at) at (λ i h. refl))
+
 -- no wear, nothing counted
 pub none-worn : (wear : List ℕ) (answers : List Reply) → length wear ≡ 0 → wear ≡ worn wear answers
 unfolding worn

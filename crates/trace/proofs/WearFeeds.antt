@@ -20,7 +20,7 @@ use Rattle.sed1520.proofs.Counts.{stores-join}
 use Rattle.trace.specs.Feed.{PartOutcome, unlessStopped, openOf}
 use Rattle.trace.specs.FeedPromises.{Part, joinedBytes, given, refusesPart, Taken}
 use Rattle.trace.specs.Wear.{WithWear, partWithWear, partReplies}
-use Rattle.trace.specs.WearPromises.{WornPart, partsOf, WearFits, wearLeft, addedUp, WearAddsUp}
+use Rattle.trace.specs.WearPromises.{PartAndWear, partsOf, WearFits, wearLeft, addedUp, WearAddsUp}
 use Rattle.trace.specs.declared.progress.Ending.{Ending}
 use Rattle.trace.specs.declared.progress.Ending.the-variants.{Open}
 use Rattle.trace.specs.declared.feed.Feed.{Feed}
@@ -32,7 +32,7 @@ use Rattle.trace.proofs.WearRefusals.{as-without-wear}
 use Rattle.trace.proofs.WearSums.{part-wear, wear-counted}
 
 -- a part given to a feed that is open, and what those behind it leave
-open-left : (f : Feed) (ram : List ℕ) (x : WornPart) (xs : List WornPart) → f .progress .ending ≡ Open
+open-left : (f : Feed) (ram : List ℕ) (x : PartAndWear) (xs : List PartAndWear) → f .progress .ending ≡ Open
     → let o = partWithWear f ram (x .part .bytes) (x .part .buffer) (x .wear) in
     wearLeft f ram (x ∷ xs) ≡ o .wear ∷ wearLeft (o .outcome .lent .state) (o .outcome .lent .ram) xs
 unfolding wearLeft
@@ -45,22 +45,22 @@ module _ (p : Panel) (i : ℕ) (below : i < 640) where
   abbrev storesBy : List ℕ → ℕ
   storesBy bytes = storesTo i (traceRun p bytes .answers)
 
-  abbrev leftBy : List ℕ → List WornPart → ℕ
+  abbrev leftBy : List ℕ → List PartAndWear → ℕ
   leftBy bytes xs = addedUp i (wearLeft (fedAt p bytes .feed) (imageAt p bytes) xs)
 
   -- a stopped feed takes no more parts
-  stopped-adds : (xs : List WornPart) (bytes : List ℕ) → (traceRun p bytes .number ≡ 0 → ⊥)
+  stopped-adds : (xs : List PartAndWear) (bytes : List ℕ) → (traceRun p bytes .number ≡ 0 → ⊥)
       → storesBy bytes + leftBy bytes xs ≡ storesBy (bytes ++ joinedBytes (partsOf xs))
   unfolding wearLeft total
   stopped-adds xs bytes h =
       let same = same-run p bytes (record { bytes = joinedBytes (partsOf xs); buffer = [] }) h in
       rw (none xs) (omega (arith, ap (λ (r : Run Panel Reply). storesTo i (r .answers)) same))
     where
-      none : (xs : List WornPart) → leftBy bytes xs ≡ 0
+      none : (xs : List PartAndWear) → leftBy bytes xs ≡ 0
       none [] = refl
       none (x ∷ xs) = rw (ne-eqb (traceRun p bytes .number) 0 h)
 
-  module _ (x : WornPart) (xs : List WornPart) (bytes : List ℕ) (fits : length (x .wear) ≡ 640)
+  module _ (x : PartAndWear) (xs : List PartAndWear) (bytes : List ℕ) (fits : length (x .wear) ≡ 640)
       (taken : refusesPart (given (fedAt p bytes .feed) (imageAt p bytes) (x .part) .answer .number) ≡ false) (done : traceRun p bytes .number ≡ 0) where
     abbrev part : Part
     part = x .part
@@ -93,7 +93,7 @@ module _ (p : Panel) (i : ℕ) (below : i < 640) where
     joined : storesBy (bytes ++ part .bytes) ≡ storesBy bytes + storesTo i own
     joined = ap (storesTo i) (replies-after p bytes part done) ∙ stores-join i (traceRun p bytes .answers) own
 
-  adds-from : (xs : List WornPart) (bytes : List ℕ) → WearFits xs → Taken (fedAt p bytes .feed) (imageAt p bytes) (partsOf xs)
+  adds-from : (xs : List PartAndWear) (bytes : List ℕ) → WearFits xs → Taken (fedAt p bytes .feed) (imageAt p bytes) (partsOf xs)
       → storesBy bytes + leftBy bytes xs ≡ storesBy (bytes ++ joinedBytes (partsOf xs))
   unfolding WearFits Taken flatMap wearLeft total
   adds-from [] bytes fits taken = rw (append-nil bytes) (omega arith)
@@ -107,7 +107,7 @@ module _ (p : Panel) (i : ℕ) (below : i < 640) where
       (λ z. stopped-adds (x ∷ xs) bytes (eqb-false (traceRun p bytes .number) 0 z))
       (tested (eqb (traceRun p bytes .number) 0))
 
-parts-add-up : (p : Panel) → Whole p → (xs : List WornPart) → WearFits xs → Taken (openOf (p .left) (p .right) .feed) (p .ram) (partsOf xs)
+parts-add-up : (p : Panel) → Whole p → (xs : List PartAndWear) → WearFits xs → Taken (openOf (p .left) (p .right) .feed) (p .ram) (partsOf xs)
     → (i : ℕ) → i < 640
     → addedUp i (wearLeft (openOf (p .left) (p .right) .feed) (p .ram) xs) ≡ storesTo i (traceRun p (joinedBytes (partsOf xs)) .answers)
 unfolding runOf pieces flatMap storesTo

@@ -2,11 +2,14 @@
 -- where the next would.
 use Prim.Native.Nat.{ℕ, _+_, _-_, _*_, _/_, _≤_}
 use native.Mathlib.Omega.{arith}
-use mathlib.Core.Path.{_≡_, sym, ap, _∙_}
+use mathlib.Core.Path.{_≡_, refl, sym, ap, _∙_}
 use mathlib.Core.List.{List, [], _∷_}
 use lib.ListN.{length, getD, take, drop}
-use borrow.Author.Tests.{eq-eqb}
+use mathlib.Core.Logic.{⊎-elim}
+use lib.Dec.{eqb}
+use borrow.Author.Tests.{eq-eqb, ne-eqb, eqb-true, eqb-false}
 use Rattle.basics.specs.Halves.{partStart}
+use Rattle.basics.proofs.Tests.{tested}
 use Rattle.panel.specs.Chips.{panelIn, BothPass}
 use Rattle.panel.specs.Panel.{Panel, chipAt, panelRun}
 use Rattle.panel.specs.Step.{runChips}
@@ -25,7 +28,7 @@ use Rattle.trace.specs.Replay.{ended}
 use Rattle.trace.specs.Wear.{raised, worn, repliesTogether}
 use Rattle.trace.proofs.OverBytes.{over-panel, fits-after}
 use Rattle.trace.proofs.RunOn.{leftAfter, run-together}
-use Rattle.trace.proofs.WearCounts.{raised-worn, worn-unstored}
+use Rattle.trace.proofs.WearCounts.{raised-none, raised-worn, worn-unstored}
 
 module _ {chips ram : List ℕ} (fit : BothPass chips ram) (trace buffer : List ℕ) (room : 2 * (length trace / 4) ≤ length buffer)
     (some : 4 ≤ length trace) {went : Tally} {chips′ ram′ answers : List ℕ} (e : inPlace went chips′ ram′ answers ≡ runChips chips ram trace buffer) where
@@ -59,7 +62,7 @@ module _ {chips ram : List ℕ} (fit : BothPass chips ram) (trace buffer : List 
       writes-store (r .chip) first (rw those like) p
 
   -- of any other records, none
-  pub not-counted : (r .lines ≡ 3 → ⊥) → (wear : List ℕ) → wear ≡ worn wear (repliesTogether chips ram trace)
+  not-counted : (r .lines ≡ 3 → ⊥) → (wear : List ℕ) → wear ≡ worn wear (repliesTogether chips ram trace)
   not-counted other wear =
       let like = together-alike (λ (q : Record). q .lines ≡ 3 → ⊥) r (λ q lines _ three. other (sym lines ∙ three)) (wholeRecords (drop 4 trace)) in
       worn-unstored wear _ (λ i. others-store i first (rw those like) p)
@@ -90,10 +93,35 @@ module _ {chips ram : List ℕ} (fit : BothPass chips ram) (trace buffer : List 
           let on = rw (s .page) at (s .on) in
           omega (arith, by, to, cells-between page c d (omega (arith, on)))
 
-      pub enough : r .lines ≡ 3 → moved ≤ place
-      enough is = omega (arith, stood is)
+      -- other records moved it by none
+      unmoved : (r .lines ≡ 3 → ⊥) → moved ≡ 0
+      unmoved other = m ∙ rw (ne-eqb (r .lines) 3 other)
 
-      pub counted : (wear : List ℕ) → r .lines ≡ 3 → raised wear (place - moved) place ≡ worn wear (repliesTogether chips ram trace)
-      counted wear is =
+      pub enough : moved ≤ place
+      enough =
+          ⊎-elim
+          (λ t. omega (arith, stood (eqb-true (r .lines) 3 t)))
+          (λ t. omega (arith, unmoved (eqb-false (r .lines) 3 t)))
+          (tested (eqb (r .lines) 3))
+
+      written : (wear : List ℕ) → r .lines ≡ 3 → raised wear (place - moved) place ≡ worn wear (repliesTogether chips ram trace)
+      written wear is =
           let from : place - moved ≡ writeIndex p (r .chip) = omega (arith, stood is) in
           rw from (ap (raised wear (writeIndex p (r .chip))) stands ∙ raised-worn wear _ _ _ (stored-from is .stores))
+
+      pub counted : (wear : List ℕ) → raised wear (place - moved) place ≡ worn wear (repliesTogether chips ram trace)
+      counted wear =
+          ⊎-elim
+          (λ t. written wear (eqb-true (r .lines) 3 t))
+          (λ t. let other = eqb-false (r .lines) 3 t in
+          let none : place - moved ≡ place = omega (arith, unmoved other) in
+          rw none (raised-none wear place ∙ not-counted other wear))
+          (tested (eqb (r .lines) 3))
+
+  -- a column that did not move, nothing counted
+  pub not-moved : (moved : ℕ) → moved ≡ columnsWritten trace (partStart 12 (r .chip)) chips chips′ → (wear : List ℕ) → moved ≡ 0
+      → wear ≡ worn wear (repliesTogether chips ram trace)
+  not-moved moved m wear none =
+      let at = place (partStart 12 (r .chip)) refl in
+      let here : at - moved ≡ at = omega (arith, none) in
+      sym (raised-none wear at) ∙ ap (λ n. raised wear n at) (sym here) ∙ counted (partStart 12 (r .chip)) refl moved m wear

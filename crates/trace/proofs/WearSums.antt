@@ -11,9 +11,10 @@ use Rattle.basics.specs.Run.{runOf}
 use Rattle.basics.specs.Table.{NoneHolds}
 use Rattle.basics.proofs.Table.{none-refuses}
 use Rattle.basics.proofs.Tests.{no-other}
-use Rattle.panel.specs.Panel.{Panel, asPanel, panelRun}
+use Rattle.panel.specs.Panel.{Panel, asPanel, panelRun, Whole}
 use Rattle.sed1520.specs.declared.bus.Record.{Record}
 use Rattle.panel.specs.Trace.{traceRun}
+use Rattle.panel.specs.Stores.{writesFinding}
 use Rattle.panel.proofs.RecordStores.{all-stores}
 use Rattle.sed1520.specs.Records.{wholeRecords}
 use Rattle.sed1520.specs.Replies.{storesTo}
@@ -61,11 +62,26 @@ none-completed f ram part answers wear e none few =
     (no-record (joinedTo (f .progress) part) (omega (arith, size, few)))
     ∙ no-stores 640
 
+-- what passed 1, 13 and 2 is a whole panel
+part-panel : (f : Feed) (ram part answers wear : List ℕ) → NoneHolds (partWearTable f ram part answers wear) → Whole (asPanel (f .left) (f .right) ram)
+part-panel f ram part answers wear none =
+    let right = part-right f (length ram) (length part) (length answers) (none .1) in
+    record { left = right .state .left; right = right .state .right; image = right .sizes .image }
+
+-- the sum of the wear of a run over a whole panel
+run-total : (p : Panel) (trace : List ℕ) → Whole p → total (wearOf (traceRun p trace .answers)) ≡ writesFinding p (wholeRecords trace)
+run-total p trace whole = stores-total (traceRun p trace .answers) 640 ∙ all-stores (wholeRecords trace) p whole
+
 pub wear-counted : WearCounted
 wear-counted =
     record {
       each = λ p trace answers wear r h i below. rw (replay-wear p trace answers wear r h) (stores-at (traceRun p trace .answers) 640 i below);
       sum = λ p trace answers wear r h.
-          rw (replay-wear p trace answers wear r h) (stores-total (traceRun p trace .answers) 640 ∙ all-stores (wholeRecords trace) p (r .panel));
+          rw (replay-wear p trace answers wear r h) (run-total p trace (r .panel));
+      each-of-part = λ f ram part answers wear e none i below.
+          rw (part-wear f ram part answers wear e none) (stores-at (partReplies f ram part) 640 i below);
+      sum-of-part = λ f ram part answers wear e none.
+          rw (part-wear f ram part answers wear e none)
+          (run-total (asPanel (f .left) (f .right) ram) (joinedTo (f .progress) part) (part-panel f ram part answers wear none));
       none-completed = none-completed;
     }

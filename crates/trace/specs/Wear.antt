@@ -1,6 +1,6 @@
 -- Wear (request C-16): how many accepted records of one call stored to each of the 640 RAM bytes, counted over the answers of its run. A replay and a
--- part of a feed are lent 640 counts and fill them from 0, whatever they held. A call over chip bytes is lent none: its inner function counts for
--- wear of any length, and for none at all there.
+-- part of a feed are lent 640 counts and fill them from 0, whatever they held. The calls over chip bytes are lent none: inside they lend wear of length
+-- 0, in which nothing is counted.
 use Prim.Native.Nat.{ℕ, _+_, _≤_}
 use mathlib.Core.Bool.{not}
 use mathlib.Core.List.{List, _∷_}
@@ -56,7 +56,7 @@ replayWithWear p trace answers wear =
     unlessRefused (replayWearTable p trace answers wear) (λ n at. withWear (refusedAt n at p answers) wear)
     (withWear (endedBytes p trace answers) (wearOf (traceRun p trace .answers)))
 
--- the run of the records that a part of a feed completes
+-- the answers to the records that a part of a feed completes, up to the first that is refused
 abbrev pub partReplies : Feed → List ℕ → List ℕ → List Reply
 partReplies f ram part = traceRun (asPanel (f .left) (f .right) ram) (joinedTo (f .progress) part) .answers
 
@@ -96,11 +96,11 @@ partWear chips t ram part answers wear =
 abbrev pub AtMost : ℕ → List ℕ → Type 0
 AtMost most wear = (i : ℕ) → getD wear i 0 ≤ most
 
--- wear with one store more for each byte from one place up to another
+-- wear with one store more for each byte from one place up to another, which is not counted
 unfoldable pub raised : List ℕ → ℕ → ℕ → List ℕ
 raised wear from to = tabulated (λ i. getD wear i 0 + if (liesIn from to i) 1 0) 0 (length wear)
 
--- wear with the stores of some answers counted on
+-- wear with the stores of some answers added
 unfoldable pub worn : List ℕ → List Reply → List ℕ
 worn wear answers = tabulated (λ i. getD wear i 0 + storesTo i answers) 0 (length wear)
 

@@ -47,32 +47,40 @@ pub record WearStays : Type 0 where
   pub stopped : (f : Feed) (ram part answers wear : List ℕ) (n at : ℕ) → f .progress .ending ≡ Stopped n at
       → partWithWear f ram part answers wear ≡ withWear (notTaken f ram answers n at) wear
 
--- what a replay that numbers 1 to 3 let pass leaves in 640 counts, whatever they held: each is how many of its answers stored to that byte; their sum
--- is how many of the accepted records write data and find a column below 80, counted from the records and the panel before each
+-- what a replay that numbers 1 to 3 let pass leaves in 640 counts, and a part that 1, 13 and 2 let pass of a feed that is open, whatever they held:
+-- each is how many of its answers stored to that byte; their sum is how many of the accepted records write data and find a column below 80, counted
+-- from the records and the panel before each; and a part that completes no record leaves zeros
 pub record WearCounted : Type 0 where
   pub each : (p : Panel) (trace answers wear : List ℕ) → Replayable p trace answers → length wear ≡ imageLength → (i : ℕ) → i < imageLength
       → getD (replayWithWear p trace answers wear .wear) i 0 ≡ storesTo i (repliesTo p trace)
   pub sum : (p : Panel) (trace answers wear : List ℕ) → Replayable p trace answers → length wear ≡ imageLength
       → total (replayWithWear p trace answers wear .wear) ≡ writesFinding p (wholeRecords trace)
+  pub each-of-part : (f : Feed) (ram part answers wear : List ℕ) → f .progress .ending ≡ Open → NoneHolds (partWearTable f ram part answers wear)
+      → (i : ℕ) → i < imageLength
+      → getD (partWithWear f ram part answers wear .wear) i 0 ≡ storesTo i (repliesTo (asPanel (f .left) (f .right) ram) (joinedTo (f .progress) part))
+  pub sum-of-part : (f : Feed) (ram part answers wear : List ℕ) → f .progress .ending ≡ Open → NoneHolds (partWearTable f ram part answers wear)
+      → total (partWithWear f ram part answers wear .wear)
+      ≡ writesFinding (asPanel (f .left) (f .right) ram) (wholeRecords (joinedTo (f .progress) part))
   pub none-completed : (f : Feed) (ram part answers wear : List ℕ) → f .progress .ending ≡ Open → NoneHolds (partWearTable f ram part answers wear)
       → completedBy (f .progress .kept) (length part) ≡ 0 → partWithWear f ram part answers wear .wear ≡ replicate imageLength 0
 
 -- a part, and the wear that is lent with it
-pub record WornPart : Type 0 where
+pub record PartAndWear : Type 0 where
   pub part : Part
   pub wear : List ℕ
 
 -- the parts without their wear
-abbrev pub partsOf : List WornPart → List Part
-partsOf xs = map (λ (x : WornPart). x .part) xs
+abbrev pub partsOf : List PartAndWear → List Part
+partsOf xs = map (λ (x : PartAndWear). x .part) xs
 
 -- every part is lent 640 counts
-unfoldable pub WearFits : List WornPart → Type 0
+unfoldable pub WearFits : List PartAndWear → Type 0
 WearFits [] = Unit
 WearFits (x ∷ xs) = (length (x .wear) ≡ imageLength) × WearFits xs
 
--- the wear that parts leave, given one after the other to a feed over an image; a stopped feed takes no more of them and leaves theirs as it came
-unfoldable pub wearLeft : Feed → List ℕ → List WornPart → List (List ℕ)
+-- the wear that each part leaves, given one after the other to a feed over an image, up to the part at which the feed stops: a stopped feed takes no
+-- more of them and leaves theirs as it came
+unfoldable pub wearLeft : Feed → List ℕ → List PartAndWear → List (List ℕ)
 wearLeft f ram [] = []
 wearLeft f ram (x ∷ xs) =
     let o = partWithWear f ram (x .part .bytes) (x .part .buffer) (x .wear) in
@@ -82,11 +90,11 @@ wearLeft f ram (x ∷ xs) =
 abbrev pub addedUp : ℕ → List (List ℕ) → ℕ
 addedUp i wears = total (map (λ (wear : List ℕ). getD wear i 0) wears)
 
--- what parts leave adds up, byte by byte: however many are taken, to the stores of the whole records of all their bytes run one after the other; and at
--- any cut of a trace that numbers 1 to 3 let pass, to what its replay leaves
+-- what parts leave adds up, byte by byte: of any parts of which none is refused by 1, 13 or 2, to the stores of the whole records of all their bytes
+-- run one after the other; and at any cut of a trace that numbers 1 to 3 let pass, to what its replay leaves
 pub record WearAddsUp : Type 0 where
-  pub parts : (p : Panel) → Whole p → (xs : List WornPart) → WearFits xs → let f = openOf (p .left) (p .right) .feed in Taken f (p .ram) (partsOf xs)
+  pub parts : (p : Panel) → Whole p → (xs : List PartAndWear) → WearFits xs → let f = openOf (p .left) (p .right) .feed in Taken f (p .ram) (partsOf xs)
       → (i : ℕ) → i < imageLength → addedUp i (wearLeft f (p .ram) xs) ≡ storesTo i (traceRun p (joinedBytes (partsOf xs)) .answers)
-  pub at-any-cut : (p : Panel) (trace buffer wear : List ℕ) → Replayable p trace buffer → length wear ≡ imageLength → (xs : List WornPart)
+  pub at-any-cut : (p : Panel) (trace buffer wear : List ℕ) → Replayable p trace buffer → length wear ≡ imageLength → (xs : List PartAndWear)
       → WearFits xs → joinedBytes (partsOf xs) ≡ trace → BuffersFit 0 (partsOf xs) → (i : ℕ) → i < imageLength
       → addedUp i (wearLeft (openOf (p .left) (p .right) .feed) (p .ram) xs) ≡ getD (replayWithWear p trace buffer wear .wear) i 0

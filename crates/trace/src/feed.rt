@@ -293,13 +293,14 @@ impl Feed {
     }
 
     // The next part of the trace, over the image of both chips: two answer bytes for each record that it completes. It fills
-    // wear, 640 counts, from 0: how many of these records, accepted, stored to each byte of the image.
+    // wear, 640 counts, from 0: how many of these records, accepted, stored to each byte of the image. Other than 640 counts
+    // are refused by number 1; numbers 1, 13 and 2 and a stopped feed leave them as they came.
     pub fn part(self, ram: &mut [u8], part: &[u8], answers: &mut [u8], wear: &mut [u32]) -> Fed
         ensures { λ r. ⌜ withWear (partOutcome r (now (ram .exit)) (now (answers .exit))) (now (wear .exit))
             ≡ partWithWear self (now (ram .entry)) (now (part .entry)) (now (answers .entry)) (now (wear .entry)) ⌝ }
     {
         if wear.len() != IMAGE_BYTES {
-            return self.without_wear();
+            return self.wrong_wear();
         }
         let left = self.left;
         let right = self.right;
@@ -320,7 +321,7 @@ impl Feed {
     }
 
     // A part that comes with wear that is not 640 counts: a stopped feed repeats, an open one refuses by number 1.
-    fn without_wear(self) -> Fed
+    fn wrong_wear(self) -> Fed
         ensures { λ r. ⌜ r ≡ unlessStopped (self .progress .ending) (fedWith self) (fedWith self 1 0) ⌝ }
     {
         let progress = self.progress;

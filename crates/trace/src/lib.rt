@@ -39,8 +39,8 @@ pub struct Replayed {
     pub right: Chip,
 }
 
-// The records one after the other on chip bytes that number 2 lets pass, up to the first that is refused, with what they
-// store to counted on.
+// The records one after the other on chip bytes that number 2 lets pass, up to the first that is refused; each of their
+// stores is added to the wear.
 pub(crate) fn run(
     chips: &mut [u8],
     ram: &mut [u8],
@@ -140,7 +140,8 @@ fn replay_counting(
 }
 
 // The replay of a trace on two chips by value and the image of both, as over their bytes. It fills wear, 640 counts, from 0:
-// how many of the records that were accepted stored to each byte of the image.
+// how many of the records that were accepted stored to each byte of the image. Other than 640 counts are refused by number 1;
+// numbers 1 to 3 leave them as they came.
 pub fn replay(
     left: Chip,
     right: Chip,

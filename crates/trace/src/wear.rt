@@ -1,5 +1,5 @@
-// Wear: how often each RAM byte of both chips was stored to, a count each. The functions take wear of any length; of a length
-// 0 nothing is counted.
+// Wear: how often each RAM byte of both chips was stored to, a count each. The functions take wear of any length; in wear of
+// length 0 nothing is counted.
 ghost use Prim.Native.Nat.{_*_, _/_, _≤_};
 ghost use mathlib.Core.Path.{_≡_};
 ghost use lib.ListN.{length, replicate};
@@ -27,7 +27,7 @@ pub(crate) fn clear(wear: &mut [u32])
     }
 }
 
-// One store more for each byte from one place up to another.
+// One store more for each byte from one place up to another, which is not counted.
 fn count_stores(wear: &mut [u32], from: usize, to: usize)
     requires { ⌜ AtMost 4294967294 (now wear) ⌝ }
     ensures { λ _. ⌜ now (wear .exit) ≡ raised (now (wear .entry)) from to ⌝ }
@@ -41,8 +41,7 @@ fn count_stores(wear: &mut [u32], from: usize, to: usize)
 }
 
 // The records that a trace begins with and that run together, and the bytes that they stored to counted. Data writes to one
-// chip store to the bytes up to where the next would, as many as they moved the column on. Without wear this must cost
-// nothing, so only the run of data writes is looked at, once it has ended.
+// chip store to the bytes up to where the next would, as many as they moved the column on; other records move it by none.
 pub(crate) fn run_counting(
     chips: &mut [u8],
     ram: &mut [u8],
@@ -59,10 +58,9 @@ pub(crate) fn run_counting(
     ensures wear { λ _. ⌜ now (wear .exit)
         ≡ worn (now (wear .entry)) (repliesTogether (now (chips .entry)) (now (ram .entry)) (now (trace .entry))) ⌝ }
 {
-    let lines = trace[0];
     let went = run_of_tested_chips(chips, ram, trace, answers);
     let tally = went.tally;
-    if lines != 3 {
+    if went.moved == 0 {
         return tally;
     }
     if wear.len() == 0 {

@@ -1,5 +1,4 @@
--- `trace::wear::run_counting` meets its contract: no record but a data write stores, without wear nothing is counted, and else what was stored to is
--- counted.
+-- `trace::wear::run_counting` meets its contract: a column not moved and without wear nothing is counted, and else what was stored to is counted.
 use Prim.Native.Nat.{_≤_}
 use native.Mathlib.Omega.{arith}
 use mathlib.Core.Path.{_≡_, _∙_}
@@ -7,23 +6,20 @@ use lib.ListN.{length, getD}
 use borrow.Author.Needs.{needs}
 use Rattle.basics.proofs.Halves.{start-within}
 use Rattle.trace.proofs.WearCounts.{none-worn}
-use Rattle.trace.proofs.WearRuns.{enough, counted, not-counted}
+use Rattle.trace.proofs.WearRuns.{enough, counted, not-moved}
 use Rattle.trace.proofs.wear.run_counting.Statement.{statement}
 use Rattle.trace.proofs.wear.run_counting.Tie as tie
 
 -- the run, from past what it gives back; and the start
-abbrev ran : tie.After-tally → tie.After-run-of-tested-chips
-ran c = c .before .before .before .before .before .before .before
+abbrev ran : tie.After-struct-known → tie.After-run-of-tested-chips
+ran c = c .before .before .before .before .before .before .before .before
 
 abbrev start : tie.After-run-of-tested-chips → tie.Start
-start c = c .before .before .before .before .before .before .before .before .before .before
+start c = c .before .before .before .before .before .before .before .before .before
 
--- past the tests, with the chip's start
-abbrev tested : tie.After-start-of → tie.Else2
-tested c = c .before .before
-
+-- the run, with the chip's start
 abbrev went : tie.After-start-of → tie.After-run-of-tested-chips
-went c = ran (tested c .before .before)
+went c = ran (c .before .before .before .before)
 
 -- the chip's bytes begin within those of both
 within : (c : tie.After-start-of) → (c .start-of .result ≤ 12) × (length (went c .run-of-tested-chips .last .0) ≡ 24)
@@ -37,7 +33,7 @@ returns c =
     let ended = ran (c .before) in
     let given = start ended .pre in
     let e = ended .run-of-tested-chips .ensures in
-    (e .0, not-counted (given .0) _ _ (given .1 .0) (given .1 .1 .0) (e .0) (c .if1 .taken) (start ended .args .wear .now))
+    (e .0, not-moved (given .0) _ _ (given .1 .0) (given .1 .1 .0) (e .0) _ (e .1) (start ended .args .wear .now) (omega (arith, c .if1 .taken)))
 
 returns-2 : tie.Need-returns-2
 returns-2 c = (ran (c .before .before) .run-of-tested-chips .ensures .0, none-worn _ _ (omega (arith, c .if2 .taken)))
@@ -48,7 +44,7 @@ sub-count-stores c =
     let own = index .before .before .before in
     let given = start (went own) .pre in
     let e = went own .run-of-tested-chips .ensures in
-    let most = enough (given .0) _ _ (given .1 .0) (given .1 .1 .0) (e .0) _ (own .start-of .ensures) _ (e .1) (omega (arith, tested own .before .if1 .left)) in
+    let most = enough (given .0) _ _ (given .1 .0) (given .1 .1 .0) (e .0) _ (own .start-of .ensures) _ (e .1) in
     omega (arith, most, index .image-index .ensures)
 
 returns-3 : tie.Need-returns-3
@@ -61,15 +57,13 @@ returns-3 c =
       e .0,
       counting .count-stores .ensures
           ∙ rw (index .image-index .ensures)
-          (counted (given .0) _ _ (given .1 .0) (given .1 .1 .0) (e .0) _ (own .start-of .ensures) _ (e .1) (start (went own) .args .wear .now)
-          (omega (arith, tested own .before .if1 .left))),
+          (counted (given .0) _ _ (given .1 .0) (given .1 .1 .0) (e .0) _ (own .start-of .ensures) _ (e .1) (start (went own) .args .wear .now)),
     )
 
 pub run-counting-spec : {M : Type 1} → statement M
 run-counting-spec =
     tie.close
     (tie.spec
-    (λ c. omega (arith, c .before .before .before .before .before .before .pre .1 .1 .0))
     (λ c κs. search needs)
     (λ c. search needs)
     (λ c. search needs)

@@ -35,7 +35,7 @@ not-given f ram answers (Stopped n at) = refl
 returns : tie.Need-returns
 returns c =
     let at = c .before .before .before .before .before .before .args in
-    both-left (rw (c .without-wear .ensures) (not-given (at .self) (at .ram .now) (at .answers .now) (at .self .progress .ending))) refl
+    both-left (rw (c .wrong-wear .ensures) (not-given (at .self) (at .ram .now) (at .answers .now) (at .self .progress .ending))) refl
     ∙ sym (part-wear-refused (at .self) _ _ _ _ (c .before .if1 .taken))
 
 returns-2 : tie.Need-returns-2
