@@ -60,10 +60,10 @@ pub(crate) fn run_counting(
 {
     let went = run_of_tested_chips(chips, ram, trace, answers);
     let tally = went.tally;
-    if went.moved == 0 {
+    if wear.len() == 0 {
         return tally;
     }
-    if wear.len() == 0 {
+    if went.moved == 0 {
         return tally;
     }
     let chip = trace[1];

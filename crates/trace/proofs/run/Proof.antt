@@ -19,7 +19,7 @@ abbrev μ-loop : tie.MeasureT-loop
 
 -- the start; the loop's head and the test, from past a run of records; that run, from past what it gives back
 abbrev start : tie.At-loop Inv-loop μ-loop → tie.Start Inv-loop μ-loop
-start c = c .before .before .before .before .before .before .before .before
+start c = c .before .before .before .before .before .before
 
 abbrev round : tie.After-run-counting Inv-loop μ-loop → tie.In-loop Inv-loop μ-loop
 round c = c .before .before .before .before .before .before
@@ -34,7 +34,7 @@ space c =
     omega (arith, buffered (given .0) (given .1 .0) (c .before .loop .inv), given .1 .0, c .loop-test .taken)
 
 loop-holds : tie.Need-loop-holds Inv-loop μ-loop
-loop-holds c = none-run _ _ _ _ _ (c .before .before .before .before .before .before .before .pre .0)
+loop-holds c = none-run _ _ _ _ _ (c .before .before .before .before .before .pre .0)
 
 -- what the records that run together give back, from past them: few, all done or refused
 module _ (c : tie.After-run-counting Inv-loop μ-loop) where
@@ -70,18 +70,18 @@ same-length-3 c =
     let given = start (head went) .pre in
     still-buffered (given .0) (given .1 .0) (head went .loop .inv) (round went .loop-test .taken) (went .run-counting .ensures)
 
-returns-3 : tie.Need-returns-3 Inv-loop μ-loop
-returns-3 c =
+returns : tie.Need-returns Inv-loop μ-loop
+returns c =
     let went = ran (c .before .before .before) in
     let given = start (head went) .pre in
-    stopped (given .0) (given .1 .0) (head went .loop .inv) (round went .loop-test .taken) (went .run-counting .ensures) (c .if3 .taken)
+    stopped (given .0) (given .1 .0) (head went .loop .inv) (round went .loop-test .taken) (went .run-counting .ensures) (c .if1 .taken)
 
 -- the wear keeps its length
 same-length-4 : tie.Need-same-length-4 Inv-loop μ-loop
 same-length-4 c =
     let went = ran (c .before .before .before) in
     let given = start (head went) .pre in
-    let on = stopped (given .0) (given .1 .0) (head went .loop .inv) (round went .loop-test .taken) (went .run-counting .ensures) (c .if3 .taken) in
+    let on = stopped (given .0) (given .1 .0) (head went .loop .inv) (round went .loop-test .taken) (went .run-counting .ensures) (c .if1 .taken) in
     ap length (on .1) ∙ worn-length (start (head went) .args .wear .now) _
 
 run-counting-requires : tie.Need-run-counting-requires Inv-loop μ-loop
@@ -102,17 +102,17 @@ loop-less c =
     let went = ran (c .before .before .before) in
     let given = start (head went) .pre in
     let here = round went .loop-test .taken in
-    let some = some-ran (given .0) (given .1 .0) (head went .loop .inv) here (went .run-counting .ensures) (c .if3 .left) in
+    let some = some-ran (given .0) (given .1 .0) (head went .loop .inv) here (went .run-counting .ensures) (c .if1 .left) in
     omega (arith, some, here)
 
 loop-again : tie.Need-loop-again Inv-loop μ-loop
 loop-again c =
     let went = ran (c .before .before .before) in
     let given = start (head went) .pre in
-    goes-on (given .0) (given .1 .0) (head went .loop .inv) (round went .loop-test .taken) (went .run-counting .ensures) (c .if3 .left)
+    goes-on (given .0) (given .1 .0) (head went .loop .inv) (round went .loop-test .taken) (went .run-counting .ensures) (c .if1 .left)
 
-returns-4 : tie.Need-returns-4 Inv-loop μ-loop
-returns-4 c =
+returns-2 : tie.Need-returns-2 Inv-loop μ-loop
+returns-2 c =
     let given = start (c .before) .pre in
     finished (given .0) (given .1 .0) (c .before .loop .inv) (omega arith)
 
@@ -122,10 +122,6 @@ run-spec =
     (tie.spec
     Inv-loop
     μ-loop
-    (λ c κs. search needs)
-    (λ c. absurd (c .before .if1 .taken (c .before .before .before .before .before .before .before .pre .0 .size)))
-    (λ c κs. search needs)
-    (λ c. absurd (c .before .if2 .taken (c .before .before .before .before .before .before .before .before .pre .0 .image)))
     loop-holds
     (λ c. search needs)
     (λ c. search needs)
@@ -145,11 +141,11 @@ run-spec =
     went .run-counting .kept .1 .0 ∙ head went .loop .inv .fits .image ∙ sym (start (head went) .pre .0 .image))
     same-length-3
     same-length-4
-    returns-3
+    returns
     loop-less
     loop-again
     (λ c. c .before .loop .inv .fits .size ∙ sym (start (c .before) .pre .0 .size))
     (λ c. c .before .loop .inv .fits .image ∙ sym (start (c .before) .pre .0 .image))
     (λ c. let given = start (c .before) .pre in buffered (given .0) (given .1 .0) (c .before .loop .inv))
     (λ c. ap length (c .before .loop .inv .so-worn) ∙ worn-length (start (c .before) .args .wear .now) _)
-    returns-4)
+    returns-2)

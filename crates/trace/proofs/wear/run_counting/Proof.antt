@@ -1,4 +1,4 @@
--- `trace::wear::run_counting` meets its contract: a column not moved and without wear nothing is counted, and else what was stored to is counted.
+-- `trace::wear::run_counting` meets its contract: without wear, or where the column did not move, nothing is counted; else what was stored to is.
 use Prim.Native.Nat.{_≤_}
 use native.Mathlib.Omega.{arith}
 use mathlib.Core.Path.{_≡_, _∙_}
@@ -11,15 +11,15 @@ use Rattle.trace.proofs.wear.run_counting.Statement.{statement}
 use Rattle.trace.proofs.wear.run_counting.Tie as tie
 
 -- the run, from past what it gives back; and the start
-abbrev ran : tie.After-struct-known → tie.After-run-of-tested-chips
-ran c = c .before .before .before .before .before .before .before .before
+abbrev ran : tie.After-tally → tie.After-run-of-tested-chips
+ran c = c .before .before .before .before .before .before .before
 
 abbrev start : tie.After-run-of-tested-chips → tie.Start
 start c = c .before .before .before .before .before .before .before .before .before
 
 -- the run, with the chip's start
 abbrev went : tie.After-start-of → tie.After-run-of-tested-chips
-went c = ran (c .before .before .before .before)
+went c = ran (c .before .before .before .before .before)
 
 -- the chip's bytes begin within those of both
 within : (c : tie.After-start-of) → (c .start-of .result ≤ 12) × (length (went c .run-of-tested-chips .last .0) ≡ 24)
@@ -29,14 +29,14 @@ within c = (
 )
 
 returns : tie.Need-returns
-returns c =
-    let ended = ran (c .before) in
-    let given = start ended .pre in
-    let e = ended .run-of-tested-chips .ensures in
-    (e .0, not-moved (given .0) _ _ (given .1 .0) (given .1 .1 .0) (e .0) _ (e .1) (start ended .args .wear .now) (omega (arith, c .if1 .taken)))
+returns c = (ran (c .before) .run-of-tested-chips .ensures .0, none-worn _ _ (omega (arith, c .if1 .taken)))
 
 returns-2 : tie.Need-returns-2
-returns-2 c = (ran (c .before .before) .run-of-tested-chips .ensures .0, none-worn _ _ (omega (arith, c .if2 .taken)))
+returns-2 c =
+    let ended = ran (c .before .before .before) in
+    let given = start ended .pre in
+    let e = ended .run-of-tested-chips .ensures in
+    (e .0, not-moved (given .0) _ _ (given .1 .0) (given .1 .1 .0) (e .0) _ (e .1) (start ended .args .wear .now) (omega (arith, c .if2 .taken)))
 
 sub-count-stores : tie.Need-sub-count-stores
 sub-count-stores c =
@@ -73,7 +73,7 @@ run-counting-spec =
     (λ c. search needs)
     (λ c. search needs)
     returns-2
-    (λ c. omega (arith, start (ran (c .before .before .before)) .pre .1 .1 .0))
+    (λ c. omega (arith, start (ran (c .before .before .before .before)) .pre .1 .1 .0))
     (λ c κs. search needs)
     (λ c. omega (arith, within c .0))
     (λ c. omega (arith, within (c .before) .0, within (c .before) .1))
