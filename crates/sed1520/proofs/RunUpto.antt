@@ -9,7 +9,6 @@ use lib.Dec.{eqb, ltb}
 use lib.ListN.{length, getD, take, drop, set, length-take, take-append-drop}
 use borrow.Author.Tests.{lt-ltb, ltb-true}
 use Rattle.basics.specs.Choice.{if}
-use Rattle.basics.specs.Run.{Run, runOf}
 use Rattle.basics.proofs.Filling.{Begun, begun-none, begun-byte, begun-length}
 use Rattle.basics.proofs.Lists.{flat-append}
 use Rattle.basics.proofs.LeadingRun.{Ran, ran-none, ran-more, ran-all, leading-most}
@@ -76,11 +75,6 @@ module _ {lines k : ℕ} {s : BytesAndRam} {trace buffer : List ℕ} {n : ℕ} {
 
   pub buffered : 2 * (length trace / 4) ≤ length buffer → length answers ≡ length buffer
   buffered room = begun-length (upto .written) (omega (arith, many))
-
-  -- no record yet
-  pub unmoved : n ≡ 0 → t ≡ s
-  unfolding runOf
-  unmoved e = sym (ap (λ (run : Run BytesAndRam Reply). run .state) (rw e at (upto .ran .run)))
 
   -- one record more
   module _ (e : more lines k trace n ≡ true) (room : 2 * (length trace / 4) ≤ length buffer) where

@@ -2,7 +2,7 @@
 // so are data reads: each keeps what changes, the column and of reads the latch, in locals and stores it once, at the end.
 ghost use Prim.Native.Nat.{_+_, _-_, _*_, _/_, _≤_, _<_};
 ghost use mathlib.Core.Path.{_≡_};
-ghost use mathlib.Core.Bool.{_&&_};
+ghost use mathlib.Core.Bool.{true, _&&_};
 ghost use lib.Dec.{ltb};
 ghost use lib.ListN.{length, getD, drop};
 ghost use Rattle.basics.specs.Choice.{if};
@@ -43,11 +43,13 @@ fn carried(trace: &[u8], n: usize, lines: u8, chip: u8) -> bool
     record == word_of(lines, chip, byte, 0)
 }
 
-// The data writes to a chip that a trace begins with.
+// The data writes to a chip that a trace begins with; the trace begins with at least one.
 fn write_run(chip: u8, bytes: &mut [u8], ram: &mut [u8], trace: &[u8], answers: &mut [u8]) -> Ran
     requires { ⌜ chip < 2 ⌝ }
     requires { ⌜ length (now bytes) ≡ chipLength ⌝ }
     requires { ⌜ 2 * (length (now trace) / 4) ≤ length (now answers) ⌝ }
+    requires { ⌜ 4 ≤ length (now trace) ⌝ }
+    requires { ⌜ carries 3 chip (front (now trace)) ≡ true ⌝ }
     ensures ran { λ r. ⌜ inPlace (r .tally) (now (bytes .exit)) (now (ram .exit)) (now (answers .exit))
         ≡ runLeading 3 chip (now (bytes .entry)) (now (ram .entry)) (now (trace .entry)) (now (answers .entry)) ⌝ }
     ensures moved { λ r. ⌜ r .moved ≡ getD (now (bytes .exit)) 7 0 - getD (now (bytes .entry)) 7 0 ⌝ }
@@ -65,10 +67,8 @@ fn write_run(chip: u8, bytes: &mut [u8], ram: &mut [u8], trace: &[u8], answers: 
         n = n + 1;
     }
     let moved = column - bytes[7];
-    if n != 0 {
-        bytes[7] = column;
-        bytes[9] = 0;
-    }
+    bytes[7] = column;
+    bytes[9] = 0;
     let tally = Tally {
         number: 0,
         place: n as u64,

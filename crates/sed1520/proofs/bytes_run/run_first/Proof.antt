@@ -1,11 +1,11 @@
 -- `sed1520::bytes_run::run_first` meets its contract: a first record that is refused, and the four actions.
 use native.Mathlib.Omega.{arith}
 use Prim.Native.Nat.{ℕ}
-use mathlib.Core.Path.{_≡_, sym, ap, _∙_}
+use mathlib.Core.Path.{_≡_, refl, sym, ap, _∙_}
 use mathlib.Core.Bool.{true, false}
 use mathlib.Core.List.{List}
 use borrow.Author.Needs.{needs}
-use borrow.Author.Tests.{ne-eqb}
+use borrow.Author.Tests.{eq-eqb, ne-eqb}
 use Rattle.basics.specs.Verdict.{Result}
 use Rattle.sed1520.specs.BytesRun.{BytesAndRam, withRam, bytesStep, commandBytes, movesData, answeredAlone, runLeading, runBytes}
 use Rattle.sed1520.specs.ChipBytes.{registersIn}
@@ -75,9 +75,11 @@ returns c =
 
 write-run-requires : tie.Need-write-run-requires
 write-run-requires c κs =
-    let passed = c .before .before .before .before in
+    let arm = c .before .before .before in
+    let passed = arm .before in
     let pre = start (passed .before) .pre in
-    (asks _ (accepted passed) .chip, (pre .0, pre .1 .1 .0))
+    let asked = asks (bus (passed .before)) (accepted passed) in
+    (asked .chip, (pre .0, (pre .1 .1 .0, (pre .1 .1 .1, rw (arm .match .keys1, asked .spare, eq-eqb (bus (passed .before) .chip) _ refl)))))
 
 read-run-requires : tie.Need-read-run-requires
 read-run-requires c κs =

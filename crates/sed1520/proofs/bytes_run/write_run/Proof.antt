@@ -3,16 +3,18 @@
 use Prim.Native.Nat.{ℕ, _+_, _-_, _*_, _/_, _<_, _≤_}
 use native.Mathlib.Omega.{arith}
 use mathlib.Core.Path.{_≡_, refl, sym, ap, _∙_}
+use mathlib.Core.Bool.{true≢false}
 use mathlib.Core.List.{List}
 use mathlib.Core.Logic.{⊎-elim}
 use lib.ListN.{length, getD, set, length-set}
 use lib.Seq.{getD-set-same, getD-set-other}
 use borrow.Author.Needs.{needs}
-use Rattle.sed1520.specs.BytesRun.{BytesAndRam, withRam, runLeading}
+use borrow.Author.Tests.{lt-ltb}
+use Rattle.sed1520.specs.BytesRun.{withRam}
 use Rattle.sed1520.specs.Replies.{InPlace, inPlace, nothingRun}
 use Rattle.sed1520.specs.declared.tally.Tally.{Tally}
 use Rattle.sed1520.proofs.DataSteps.{as-written, write-below, write-past}
-use Rattle.sed1520.proofs.RunUpto.{Upto, started, within, buffered, unmoved, carried-on, ends}
+use Rattle.sed1520.proofs.RunUpto.{Upto, started, within, buffered, carried-on, ends}
 use Rattle.sed1520.proofs.bytes_run.write_run.Statement.{statement}
 use Rattle.sed1520.proofs.bytes_run.write_run.Tie as tie
 
@@ -21,7 +23,6 @@ record Writing (k : ℕ) (b ram₀ trace buffer : List ℕ) (ram answers : List 
   mark : ℕ
   stale : (n ≡ 0 → ⊥) → mark ≡ 0
   grown : getD b 7 0 ≤ column
-  begun : n ≡ 0 → column ≡ getD b 7 0
   kept : length ram ≡ length ram₀
   upto : Upto 3 k (withRam b ram₀) trace buffer n (withRam (set (set b 7 column) 9 mark) ram) answers 0 0
 
@@ -46,7 +47,6 @@ loop-holds c =
       mark = getD (at .bytes .now) 9 0;
       stale = λ h. absurd (h refl);
       grown = omega arith;
-      begun = λ _. refl;
       kept = refl;
       upto = rw (as-written (at .bytes .now) (begin .pre .1 .0)) (started 3 (at .chip) _ (at .trace .now) (at .answers .now));
     }
@@ -55,7 +55,7 @@ loop-holds c =
 room : (c : tie.Then1 Inv-loop μ-loop) → 2 * c .before .before .loop .n + 1 < length (c .before .before .loop .answers)
 room c =
     let begin = start (c .before .before) in
-    omega (arith, there c, buffered (c .before .before .loop .inv .upto) (begin .pre .1 .1), begin .pre .1 .1)
+    omega (arith, there c, buffered (c .before .before .loop .inv .upto) (begin .pre .1 .1 .0), begin .pre .1 .1 .0)
 
 loop-less : tie.Need-loop-less Inv-loop μ-loop
 loop-less c = omega (arith, there (c .before))
@@ -66,14 +66,13 @@ loop-again c =
     let begin = start (round .before .before) in
     let inv = round .before .before .loop .inv in
     let goes = sym (round .before .carried .ensures) ∙ round .if1 .taken in
-    let room = begin .pre .1 .1 in
+    let room = begin .pre .1 .1 .0 in
     let b = begin .args .bytes .now in
     ⊎-elim
     (λ h. record {
       mark = 0;
       stale = λ _. refl;
       grown = omega (arith, inv .grown, h .7);
-      begun = λ none. absurd (omega arith);
       kept = rw (h .6, h .3 .ensures) (simp length-set (inv .kept));
       upto =
           rw (h .6, h .7, h .3 .ensures)
@@ -83,7 +82,6 @@ loop-again c =
       mark = 0;
       stale = λ _. refl;
       grown = omega (arith, inv .grown, h .2);
-      begun = λ none. absurd (omega arith);
       kept = rw (h .1) (inv .kept);
       upto =
           rw (h .1, h .2)
@@ -91,31 +89,26 @@ loop-again c =
     })
     (c .if2 .came)
 
--- what the records leave, by the bytes that they leave
-abbrev left : (c : tie.Else1 Inv-loop μ-loop) → List ℕ → InPlace Tally
-left c bytes = let loop = c .before .before .loop in inPlace (nothingRun 0 (loop .n)) bytes (loop .ram) (loop .answers)
-
-whole : (c : tie.Else1 Inv-loop μ-loop) → let loop = c .before .before .loop in let at = start (c .before .before) .args in
-    left c (set (set (at .bytes .now) 7 (loop .column)) 9 (loop .inv .mark))
-    ≡ runLeading 3 (at .chip) (at .bytes .now) (at .ram .now) (at .trace .now) (at .answers .now)
-whole c = ends (c .before .before .loop .inv .upto) (sym (c .before .carried .ensures) ∙ c .if1 .left)
+-- past the loop a record has run, the first
+ran : (c : tie.Else1 Inv-loop μ-loop) → c .before .before .loop .n ≡ 0 → ⊥
+ran c none =
+    let begin = start (c .before .before) in
+    let pre = begin .pre in
+    let there = lt-ltb 0 (length (begin .args .trace .now) / 4) (omega (arith, pre .1 .1 .1 .0)) in
+    true≢false (rw (none, there, pre .1 .1 .1 .1) at (sym (c .before .carried .ensures) ∙ c .if1 .left))
 
 returns : tie.Need-returns Inv-loop μ-loop
 returns c =
-    let test = c .before .before in
-    let loop = test .before .before .loop in
-    let begin = start (test .before .before) in
+    let past = c .before in
+    let loop = past .before .before .loop in
+    let begin = start (past .before .before) in
     let b = begin .args .bytes .now in
+    let left : List ℕ → InPlace Tally = λ bytes. inPlace (nothingRun 0 (loop .n)) bytes (loop .ram) (loop .answers) in
     let stands = getD-set-other (set b 7 (loop .column)) 9 7 0 0 (λ e. absurd (omega arith))
-    ∙ getD-set-same b 7 (loop .column) 0 (omega (arith, begin .pre .1 .0)) in
-    (ap (λ m. left test (set (set b 7 (loop .column)) 9 m)) (sym (loop .inv .stale (c .if3 .taken))) ∙ whole test, rw stands)
-
-returns-2 : tie.Need-returns-2 Inv-loop μ-loop
-returns-2 c =
-    let test = c .before .before in
-    let inv = test .before .before .loop .inv in (
-      ap (λ (u : BytesAndRam). left test (u .bytes)) (sym (unmoved (inv .upto) (c .if3 .left))) ∙ whole test,
-      omega (arith, inv .begun (c .if3 .left)),
+    ∙ getD-set-same b 7 (loop .column) 0 (omega (arith, begin .pre .1 .0)) in (
+      ap (λ m. left (set (set b 7 (loop .column)) 9 m)) (sym (loop .inv .stale (ran past)))
+          ∙ ends (loop .inv .upto) (sym (past .before .carried .ensures) ∙ past .if1 .left),
+      rw stands,
     )
 
 pub write-run-spec : {M : Type 1} → statement M
@@ -146,9 +139,6 @@ write-run-spec =
     (λ c. search needs)
     (λ c. search needs)
     (λ c. simp length-set)
-    (λ c. c .before .before .before .before .loop .inv .kept)
-    (λ c. buffered (c .before .before .before .before .loop .inv .upto) (start (c .before .before .before .before) .pre .1 .1))
-    returns
-    (λ c. c .before .before .before .before .loop .inv .kept)
-    (λ c. buffered (c .before .before .before .before .loop .inv .upto) (start (c .before .before .before .before) .pre .1 .1))
-    returns-2)
+    (λ c. c .before .before .before .loop .inv .kept)
+    (λ c. buffered (c .before .before .before .loop .inv .upto) (start (c .before .before .before) .pre .1 .1 .0))
+    returns)
