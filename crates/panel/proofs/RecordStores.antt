@@ -77,7 +77,8 @@ all-stores (r ∷ rs) p whole =
     let rest = panelRun (stepped p r) rs .answers in
     let one = said-once finds (writeIndex p (r .chip)) (λ f. says .byte (writeIndex p (r .chip)) (rw f at said) .0) in
     rw (run-accepted panelStep p r rs t, t)
-    (sum-same _ (λ i. if (isByte i (if finds (some (writeIndex p (r .chip))) none)) 1 0 + storesTo i rest) 640 (λ i _. stores-first i _ rest ∙ rw said)
+    (sum-same _ (λ i. if (isByte i (if finds (some (writeIndex p (r .chip))) none)) 1 0 + storesTo i rest) 640
+    (λ i _. stores-first i _ rest ∙ rw said)
     ∙ sum-plus _ (λ i. storesTo i rest) 640
     ∙ rw (one, all-stores rs (stepped p r) (stepped-whole p r whole))))
     (λ t. rw (run-refused panelStep p r rs t, t) (sum-zeros _ 640 (λ i _. stores-none i)))

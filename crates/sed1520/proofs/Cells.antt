@@ -1,4 +1,5 @@
--- The byte of a page and a column: it lies within the RAM, that of the next column comes next, those of two pages or columns lie apart, and what is read after a write.
+-- The byte of a page and a column: it lies within the RAM, that of the next column comes next, those of two pages or columns lie apart, and what is
+-- read after a write.
 use Prim.Native.Nat.{ℕ, _+_, _-_, _<_, _≤_}
 use native.Mathlib.Omega.{arith}
 use mathlib.Core.Path.{_≡_}

@@ -26,7 +26,8 @@ use Rattle.sed1520.proofs.StepCases.{asks, action-data-write, step-acti
 
 -- a byte set is one byte stored
 pub one-stored : (at b : ℕ) (ram : List ℕ) → at < length ram → OneStored at b ram (set ram at b)
-one-stored at b ram within = record { size = length-set ram at b; holds = getD-set-same ram at b 0 within; others = λ j apart. getD-set-other ram at j b 0 apart }
+one-stored at b ram within =
+    record { size = length-set ram at b; holds = getD-set-same ram at b 0 within; others = λ j apart. getD-set-other ram at j b 0 apart }
 
 module _ (r : Record) (c : Chip) (ram : List ℕ) where
   -- an accepted record passed numbers 1, 2 and 4 to 6

@@ -98,7 +98,8 @@ executed b (some m) c =
 unfoldable pub commandWrite : ℕ → Chip → Answer
 commandWrite b c = executed b (decodeOf b .value) c
 
--- a data write; the record's chip number gives the index of the byte stored to; by request C-12 it leaves the read latch stale, also at the column where counting stops
+-- a data write; the record's chip number gives the index of the byte stored to; by request C-12 it leaves the read latch stale, also at the column
+-- where counting stops
 unfoldable pub dataWrite : ℕ → ℕ → Chip → List ℕ → Outcome
 dataWrite k b c ram =
     if (ltb (c .column) columnStop)

@@ -118,7 +118,8 @@ module _ {chips₀ ram₀ trace buffer wear₀ chips ram answers wear : List ℕ
       (rw whole at (on .so-far), on .so-worn ∙ ap (λ (qs : List Record). worn wear₀ (panelRun (panelIn chips₀ ram₀) qs .answers)) whole)
 
   -- the records that run together from here
-  module _ (more : n < length trace / 4) {went : Tally} {chips′ ram′ part wear′ : List ℕ} (given : let bytes = take (length trace - 4 * n) (drop (4 * n) trace) in
+  module _ (more : n < length trace / 4) {went : Tally} {chips′ ram′ part wear′ : List ℕ}
+      (given : let bytes = take (length trace - 4 * n) (drop (4 * n) trace) in
       (inPlace went chips′ ram′ part ≡ runChips chips ram bytes (take (length answers - 2 * n) (drop (2 * n) answers)))
       × (wear′ ≡ worn wear (repliesTogether chips ram bytes))) where
     abbrev left : List Record

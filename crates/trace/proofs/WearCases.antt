@@ -31,7 +31,8 @@ module _ (chips ram trace answers wear : List ℕ) where
 
 -- a part given to a feed that is open
 module _ (f : Feed) (ram part answers wear : List ℕ) where
-  pub open-kept : (n at : ℕ) → First (ofFeed partTable f (length ram) (length part) (length answers)) n at → openPartWear f ram part answers wear ≡ wear
+  pub open-kept : (n at : ℕ) → First (ofFeed partTable f (length ram) (length part) (length answers)) n at
+      → openPartWear f ram part answers wear ≡ wear
   unfolding openPartWear
   open-kept = first-refuses (λ n at. wear) _ (ofFeed partTable f (length ram) (length part) (length answers))
 

@@ -129,5 +129,6 @@ unfolding worn
 worn-bound most wear answers few i =
     ⊎-elim
     (λ t. omega (arith, worn-at wear answers i (ltb-true i (length wear) t), few i, stores-bound i answers))
-    (λ t. rw (List·getD-eq-default (worn wear answers) 0 {n = i} (omega (arith, worn-length wear answers, ltb-false i (length wear) t))) (omega arith))
+    (λ t. rw (List·getD-eq-default (worn wear answers) 0 {n = i} (omega (arith, worn-length wear answers, ltb-false i (length wear) t)))
+    (omega arith))
     (tested (ltb i (length wear)))

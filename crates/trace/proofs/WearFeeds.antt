@@ -61,7 +61,8 @@ module _ (p : Panel) (i : ℕ) (below : i < 640) where
       none (x ∷ xs) = rw (ne-eqb (traceRun p bytes .number) 0 h)
 
   module _ (x : PartAndWear) (xs : List PartAndWear) (bytes : List ℕ) (fits : length (x .wear) ≡ 640)
-      (taken : refusesPart (given (fedAt p bytes .feed) (imageAt p bytes) (x .part) .answer .number) ≡ false) (done : traceRun p bytes .number ≡ 0) where
+      (taken : refusesPart (given (fedAt p bytes .feed) (imageAt p bytes) (x .part) .answer .number) ≡ false)
+      (done : traceRun p bytes .number ≡ 0) where
     abbrev part : Part
     part = x .part
 

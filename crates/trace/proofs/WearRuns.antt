@@ -1,5 +1,5 @@
--- The records that run together, over chip bytes that number 2 lets pass: what they store to is counted from where their first data write stands up to
--- where the next would.
+-- The records that run together, over chip bytes that number 2 lets pass: what they store to is counted from where their first data write stands up
+-- to where the next would.
 use Prim.Native.Nat.{ℕ, _+_, _-_, _*_, _/_, _≤_}
 use native.Mathlib.Omega.{arith}
 use mathlib.Core.Path.{_≡_, refl, sym, ap, _∙_}
@@ -31,7 +31,8 @@ use Rattle.trace.proofs.RunOn.{leftAfter, run-together}
 use Rattle.trace.proofs.WearCounts.{raised-none, raised-worn, worn-unstored}
 
 module _ {chips ram : List ℕ} (fit : BothPass chips ram) (trace buffer : List ℕ) (room : 2 * (length trace / 4) ≤ length buffer)
-    (some : 4 ≤ length trace) {went : Tally} {chips′ ram′ answers : List ℕ} (e : inPlace went chips′ ram′ answers ≡ runChips chips ram trace buffer) where
+    (some : 4 ≤ length trace) {went : Tally} {chips′ ram′ answers : List ℕ}
+    (e : inPlace went chips′ ram′ answers ≡ runChips chips ram trace buffer) where
   abbrev p : Panel
   p = panelIn chips ram
 
@@ -58,7 +59,8 @@ module _ {chips ram : List ℕ} (fit : BothPass chips ram) (trace buffer : List 
   -- of data writes, as many as they moved the column on, up to the place after them
   stored-from : r .lines ≡ 3 → StoresFrom (r .chip) p (panelRun p first)
   stored-from is =
-      let like = together-alike (λ (q : Record). (q .lines ≡ 3) × (q .chip ≡ r .chip)) r (λ q lines chip. (lines ∙ is, chip)) (wholeRecords (drop 4 trace)) in
+      let writes : Record → Type 0 = λ q. (q .lines ≡ 3) × (q .chip ≡ r .chip) in
+      let like = together-alike writes r (λ q lines chip. (lines ∙ is, chip)) (wholeRecords (drop 4 trace)) in
       writes-store (r .chip) first (rw those like) p
 
   -- of any other records, none

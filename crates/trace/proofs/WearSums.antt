@@ -63,7 +63,8 @@ none-completed f ram part answers wear e none few =
     ∙ no-stores 640
 
 -- what passed 1, 13 and 2 is a whole panel
-part-panel : (f : Feed) (ram part answers wear : List ℕ) → NoneHolds (partWearTable f ram part answers wear) → Whole (asPanel (f .left) (f .right) ram)
+part-panel : (f : Feed) (ram part answers wear : List ℕ) → NoneHolds (partWearTable f ram part answers wear)
+    → Whole (asPanel (f .left) (f .right) ram)
 part-panel f ram part answers wear none =
     let right = part-right f (length ram) (length part) (length answers) (none .1) in
     record { left = right .state .left; right = right .state .right; image = right .sizes .image }

@@ -1,5 +1,5 @@
--- A replay and a part that are lent wear: without 640 counts they are refused; with them they are the replay and the part, and the wear is that of the
--- inner function over the bytes of both chips.
+-- A replay and a part that are lent wear: without 640 counts they are refused; with them they are the replay and the part, and the wear is that of
+-- the inner function over the bytes of both chips.
 use Prim.Native.Nat.{ℕ}
 use mathlib.Core.Path.{_≡_, refl, sym, ap, _∙_}
 use mathlib.Core.List.{List}
@@ -15,7 +15,8 @@ use Rattle.sed1520.specs.declared.registers.Chip.{Chip}
 use Rattle.trace.specs.Replay.{ReplayOutcome, refusedAt, endedBytes, replayOf}
 use Rattle.trace.specs.Feed.{asFeed, joinedTo, partTable, unlessStopped, PartOutcome, notTaken, tookPart, openPart, partOf}
 use Rattle.trace.specs.FeedInPlace.{feedIn}
-use Rattle.trace.specs.Wear.{storesIn, wearOf, WithWear, withWear, replayWithWear, partReplies, partWearTable, partWithWear, replayWear, openPartWear, partWear}
+use Rattle.trace.specs.Wear.{storesIn, wearOf, WithWear, withWear, replayWithWear, partReplies, partWearTable, partWithWear}
+use Rattle.trace.specs.Wear.{replayWear, openPartWear, partWear}
 use Rattle.trace.specs.declared.progress.Ending.{Ending}
 use Rattle.trace.specs.declared.progress.Ending.the-variants.{Open, Stopped}
 use Rattle.trace.specs.declared.progress.Progress.{Progress}
@@ -50,7 +51,8 @@ wear-over-bytes left right ram trace answers wear h =
     let size = two-length left right in
     let on = panel-there left right ram in
     rw (eq-eqb (length chips) 24 size, h)
-    (ap (λ (t : List Cause). unlessRefused t (λ n at. wear) (wearOf (traceRun (panelIn chips ram) trace .answers))) (same-lines chips ram trace answers size)
+    (ap (λ (t : List Cause). unlessRefused t (λ n at. wear) (wearOf (traceRun (panelIn chips ram) trace .answers)))
+    (same-lines chips ram trace answers size)
     ∙ ap (λ (q : Panel). replayLeaves q trace answers wear) on)
 
 -- a part of a feed
@@ -71,14 +73,16 @@ module _ (f : Feed) (ram part answers wear : List ℕ) where
   unfolding partWithWear
   by-its-ending is = ap (λ (e : Ending). unlessStopped e (λ n at. withWear (notTaken f ram answers n at) wear) openLeaves) is
 
-  pub part-stopped : (n at : ℕ) → f .progress .ending ≡ Stopped n at → partWithWear f ram part answers wear ≡ withWear (notTaken f ram answers n at) wear
+  pub part-stopped : (n at : ℕ) → f .progress .ending ≡ Stopped n at
+      → partWithWear f ram part answers wear ≡ withWear (notTaken f ram answers n at) wear
   part-stopped n at = by-its-ending
 
   pub part-open : f .progress .ending ≡ Open → partWithWear f ram part answers wear ≡ openLeaves
   part-open = by-its-ending
 
   pub part-wear-refused : (length wear ≡ 640 → ⊥)
-      → partWithWear f ram part answers wear ≡ withWear (unlessStopped (f .progress .ending) (notTaken f ram answers) (notTaken f ram answers 1 0)) wear
+      → partWithWear f ram part answers wear
+      ≡ withWear (unlessStopped (f .progress .ending) (notTaken f ram answers) (notTaken f ram answers 1 0)) wear
   unfolding partWithWear
   part-wear-refused h = rw (ne-eqb (length wear) 640 h) (stop (f .progress .ending))
     where

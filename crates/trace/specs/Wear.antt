@@ -1,6 +1,6 @@
--- Wear (request C-16): how many accepted records of one call stored to each of the 640 RAM bytes, counted over the answers of its run. A replay and a
--- part of a feed are lent 640 counts and fill them from 0, whatever they held. The calls over chip bytes are lent none: inside they lend wear of length
--- 0, in which nothing is counted.
+-- Wear (request C-16): how many accepted records of one call stored to each of the 640 RAM bytes, counted over the answers of its run. A replay and
+-- a part of a feed are lent 640 counts and fill them from 0, whatever they held. The calls over chip bytes are lent none: inside they lend wear of
+-- length 0, in which nothing is counted.
 use Prim.Native.Nat.{ℕ, _+_, _≤_}
 use mathlib.Core.Bool.{not}
 use mathlib.Core.List.{List, _∷_}
@@ -65,8 +65,8 @@ abbrev pub partWearTable : Feed → List ℕ → List ℕ → List ℕ → List 
 partWearTable f ram part answers wear =
     wearTable (length wear) (partTable (outOfRange (f .left)) (outOfRange (f .right)) (f .progress) (length ram) (length part) (length answers))
 
--- a part that is lent wear, given to a feed: a stopped feed repeats, before any other test; numbers 1, 13 and 2; these leave the wear as it came. Then
--- the records, with the wear of their run
+-- a part that is lent wear, given to a feed: a stopped feed repeats, before any other test; numbers 1, 13 and 2; these leave the wear as it came.
+-- Then the records, with the wear of their run
 unfoldable pub partWithWear : Feed → List ℕ → List ℕ → List ℕ → List ℕ → WithWear PartOutcome
 partWithWear f ram part answers wear =
     let bytes = joinedTo (f .progress) part in

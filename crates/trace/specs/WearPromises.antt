@@ -27,8 +27,8 @@ pub record AsWithoutWear : Type 0 where
   pub part : (f : Feed) (ram part answers wear : List ℕ) → length wear ≡ imageLength
       → partWithWear f ram part answers wear .outcome ≡ partOf f ram part answers
 
--- numbers 1 to 3 of a replay that is lent wear, and 1, 13 and 2 of a part given to a feed that is open, exactly when their lines say so, number 1 also
--- for wear that is not 640 counts; else the number and the place of the records' run
+-- numbers 1 to 3 of a replay that is lent wear, and 1, 13 and 2 of a part given to a feed that is open, exactly when their lines say so, number 1
+-- also for wear that is not 640 counts; else the number and the place of the records' run
 pub record WearNumbers : Type 0 where
   pub replay : (p : Panel) (trace answers wear : List ℕ)
       → ExactlyWhen (replayWearTable p trace answers wear) (tallyVerdict (endedBytes p trace answers .answer))
@@ -57,7 +57,8 @@ pub record WearCounted : Type 0 where
       → total (replayWithWear p trace answers wear .wear) ≡ writesFinding p (wholeRecords trace)
   pub each-of-part : (f : Feed) (ram part answers wear : List ℕ) → f .progress .ending ≡ Open → NoneHolds (partWearTable f ram part answers wear)
       → (i : ℕ) → i < imageLength
-      → getD (partWithWear f ram part answers wear .wear) i 0 ≡ storesTo i (repliesTo (asPanel (f .left) (f .right) ram) (joinedTo (f .progress) part))
+      → getD (partWithWear f ram part answers wear .wear) i 0
+      ≡ storesTo i (repliesTo (asPanel (f .left) (f .right) ram) (joinedTo (f .progress) part))
   pub sum-of-part : (f : Feed) (ram part answers wear : List ℕ) → f .progress .ending ≡ Open → NoneHolds (partWearTable f ram part answers wear)
       → total (partWithWear f ram part answers wear .wear)
       ≡ writesFinding (asPanel (f .left) (f .right) ram) (wholeRecords (joinedTo (f .progress) part))
@@ -93,7 +94,8 @@ addedUp i wears = total (map (λ (wear : List ℕ). getD wear i 0) wears)
 -- what parts leave adds up, byte by byte: of any parts of which none is refused by 1, 13 or 2, to the stores of the whole records of all their bytes
 -- run one after the other; and at any cut of a trace that numbers 1 to 3 let pass, to what its replay leaves
 pub record WearAddsUp : Type 0 where
-  pub parts : (p : Panel) → Whole p → (xs : List PartAndWear) → WearFits xs → let f = openOf (p .left) (p .right) .feed in Taken f (p .ram) (partsOf xs)
+  pub parts : (p : Panel) → Whole p → (xs : List PartAndWear) → WearFits xs → let f = openOf (p .left) (p .right) .feed in
+      Taken f (p .ram) (partsOf xs)
       → (i : ℕ) → i < imageLength → addedUp i (wearLeft f (p .ram) xs) ≡ storesTo i (traceRun p (joinedBytes (partsOf xs)) .answers)
   pub at-any-cut : (p : Panel) (trace buffer wear : List ℕ) → Replayable p trace buffer → length wear ≡ imageLength → (xs : List PartAndWear)
       → WearFits xs → joinedBytes (partsOf xs) ≡ trace → BuffersFit 0 (partsOf xs) → (i : ℕ) → i < imageLength

@@ -62,7 +62,8 @@ returns-4 c =
     let within = bytes-start own in
     let part = ran .run-of-tested-bytes .last .0 in
     let same : length part ≡ 12 = rw (ran .run-of-tested-bytes .kept .0) (simp (length-take, length-drop) (omega (arith, right, within))) in (
-      on-parts _ _ _ _ right (omega arith) (omega arith) _ _ (own .start-of .ensures) (image .start-of2 .ensures) (ran .run-of-tested-bytes .ensures .0),
+      on-parts _ _ _ _ right (omega arith) (omega arith) _ _ (own .start-of .ensures) (image .start-of2 .ensures)
+          (ran .run-of-tested-bytes .ensures .0),
       moved-on-parts (at .chips .now) (at .ram .now) (at .trace .now) (at .answers .now) right (omega arith) (omega arith) (own .start-of .result)
           (own .start-of .ensures) part same
           (ran .run-of-tested-bytes .ensures .1),

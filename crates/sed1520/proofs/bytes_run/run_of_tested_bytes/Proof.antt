@@ -9,7 +9,8 @@ use Rattle.sed1520.proofs.bytes_run.run_of_tested_bytes.Statement.{stat
 use Rattle.sed1520.proofs.bytes_run.run_of_tested_bytes.Tie as tie
 
 -- bytes that stay have no column moved
-as-came : (c : tie.After-slice-known3) → let at = c .before .before .before .before .args in 0 ≡ columnsWritten (at .trace .now) 0 (at .bytes .now) (at .bytes .now)
+as-came : (c : tie.After-slice-known3) → let at = c .before .before .before .before .args in
+    0 ≡ columnsWritten (at .trace .now) 0 (at .bytes .now) (at .bytes .now)
 as-came c = let at = c .before .before .before .before .args in none-moved (at .trace .now) 0 (at .bytes .now)
 
 returns : tie.Need-returns

@@ -55,7 +55,8 @@ returns c =
     let at = start known .args in
     let all = kept-none (at .progress) (at .part .now) (omega arith) in (
       rw all (ran .run .ensures .0),
-      from-cleared known _ (ran .run .ensures .1 ∙ ap (λ (bytes : List ℕ). worn (cleared known .clear .last .0) (repliesTo (start known) bytes)) (sym all)),
+      from-cleared known _
+          (ran .run .ensures .1 ∙ ap (λ (bytes : List ℕ). worn (cleared known .clear .last .0) (repliesTo (start known) bytes)) (sym all)),
     )
 
 returns-2 : tie.Need-returns-2
@@ -111,7 +112,8 @@ returns-3 c =
     let known = read .before .before .before .before .before .before in
     let at = begun read .args in (
       ran .run-both .ensures .0
-          ∙ ap (λ (bytes : List ℕ). overBytes (at .chips .now) (endedBytes (panelIn (at .chips .now) (at .ram .now)) bytes (at .answers .now))) (whole read),
+          ∙ ap (λ (bytes : List ℕ). overBytes (at .chips .now) (endedBytes (panelIn (at .chips .now) (at .ram .now)) bytes (at .answers .now)))
+          (whole read),
       from-cleared known _
           (ran .run-both .ensures .1 ∙ ap (λ (bytes : List ℕ). worn (cleared known .clear .last .0) (repliesTo (begun read) bytes)) (whole read)),
     )

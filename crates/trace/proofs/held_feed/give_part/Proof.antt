@@ -162,7 +162,8 @@ module _ {M : Type 1} (𝓤 : URA M) (H : Heap 𝓤) (A : Atoms 𝓤) (at-mem : 
           pass1 ! (init ! 18 refl (mut-slice-lawful 𝓤 H A W (named 3) (κs .1 .1 .0) u8 .typed answers _ is-answers .0)) $
           pass1 ! (init ! 16 refl (mut-slice-lawful 𝓤 H A W (named 4) (κs .1 .1 .1 .0) u32 .typed wear _ is-wear .0)) $ pass0 ! $
           move ! (28 ∷ 29 ∷ 30 ∷ []) $ opens-feed ! tt h b o (λ was.
-          -- [the feed's cell; what a Feed owns; the open borrow; obs; auth; _13; …; _12; …; …; _1; …; room for _0; …; what the slices own; their tokens]
+          -- [the feed's cell; what a Feed owns; the open borrow; obs; auth; _13; …; _12; …; …; _1; …; room for _0; …; what the slices own; their
+          -- tokens]
           assigns ! (of-opd ! (load ! (from ! (hop ! (look ! 29 refl) (stop !))) (look-raw ! 0 refl))) (from ! (stop !))
           (init ! 19 refl (feed-typed 𝓤 H A W h was)) $
           assigns ! (addr ! (from ! (fld ! refl (hop ! (look-in ! 27 (sub ! 0 refl (whole !))) (stop !))))) (from ! (stop !))

@@ -85,7 +85,8 @@ count-stores-spec =
     loop-holds
     (λ c. omega (arith, within c))
     (λ c. omega (arith, within (c .before), c .before .before .loop .inv .raising .size))
-    (λ c. omega (arith, raise-here (c .before .before .loop .inv .raising) (within (c .before)), c .before .before .before .before .pre (c .before .before .loop .at)))
+    (λ c. let loop = c .before .before .loop in
+    omega (arith, raise-here (loop .inv .raising) (within (c .before)), c .before .before .before .before .pre (loop .at)))
     (λ c. omega (arith, within (c .before)))
     (λ c. omega (arith, within (c .before), c .before .before .loop .inv .raising .size))
     (λ c. omega (arith, within (c .before)))

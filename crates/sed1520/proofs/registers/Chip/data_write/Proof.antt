@@ -28,7 +28,8 @@ returns c = rw (c .done .ensures) (stopped _ _ _ _ _ (c .before .before .before 
 returns-2 : tie.Need-returns-2
 returns-2 c =
     let kept = c .before .before .before .before .before in
-    rw (c .wrote-to .ensures, c .before .image-index .ensures, kept .store .ensures) (stored _ _ _ _ _ (kept .before .before .before .before .staled .ensures) (omega arith))
+    rw (c .wrote-to .ensures, c .before .image-index .ensures, kept .store .ensures)
+    (stored _ _ _ _ _ (kept .before .before .before .before .staled .ensures) (omega arith))
 
 pub data-write-spec : {M : Type 1} → statement M
 data-write-spec =
