@@ -3,6 +3,8 @@
  * or fed in parts of several lengths; each frame, each repaint; each record of a full trace whose changes are
  * listed, where the plain one draws the whole frame at every record. The archive's feed is also timed against
  * its own replay of the same trace. Both sides get the same bytes.
+ * Another archive may stand in the plain implementation's place, under its names; OTHER_SIDE is what its times are
+ * printed under.
  * The jobs are gone through in rounds, and within a job the two take turns, so that all see the same
  * machine; the best turn of each counts.
  *
@@ -258,7 +260,7 @@ static void add_replay(const char *name, struct load *load, void (*fill)(struct 
     random_bytes(&g, load->ram, RAM);
     fill(load, &g);
     settle_reads(&load->trace, &g, load->chips, load->ram);
-    add((struct job){ .unit = "record", .side = { "archive", "plain" }, .units = RECORDS_MAX, .limit = LIMIT, .place = RECORDS_MAX,
+    add((struct job){ .unit = "record", .side = { "archive", OTHER_SIDE }, .units = RECORDS_MAX, .limit = LIMIT, .place = RECORDS_MAX,
                       .prepare = prepare_replay, .work = work_replay, .input = load }, "replay", name);
 }
 
@@ -324,7 +326,7 @@ static void add_feeds(const struct load *load)
             f->call[PLAIN].open = plain_feed_open;
             f->call[PLAIN].part = plain_feed_part;
         }
-        add((struct job){ .unit = "record", .side = { "feed", own ? "replay" : "plain" }, .units = RECORDS_MAX,
+        add((struct job){ .unit = "record", .side = { "feed", own ? "replay" : OTHER_SIDE }, .units = RECORDS_MAX,
                           .limit = own && part >= 512 ? FEED_LIMIT : NO_LIMIT, .place = RECORDS_MAX,
                           .prepare = prepare_feed, .work = work_feed, .input = f, .own = own }, parts[i / 2].way, load->name);
     }
@@ -379,7 +381,7 @@ static void add_frame(const char *name, struct painting *p)
     p->source_len = RAM;
     p->output_len = FRAME;
     fill_source(p);
-    add((struct job){ .unit = "frame", .side = { "archive", "plain" }, .units = CALLS_A_TURN, .limit = LIMIT, .place = FRAME,
+    add((struct job){ .unit = "frame", .side = { "archive", OTHER_SIDE }, .units = CALLS_A_TURN, .limit = LIMIT, .place = FRAME,
                       .prepare = prepare_painting, .work = work_painting, .input = p }, "frame", name);
 }
 
@@ -392,7 +394,7 @@ static void add_repaint(void)
         .output_len = REPAINT,
     };
     fill_source(&p);
-    add((struct job){ .unit = "repaint", .side = { "archive", "plain" }, .units = CALLS_A_TURN, .limit = NO_LIMIT,
+    add((struct job){ .unit = "repaint", .side = { "archive", OTHER_SIDE }, .units = CALLS_A_TURN, .limit = NO_LIMIT,
                       .place = REPAINT_RECORDS, .prepare = prepare_painting, .work = work_painting, .input = &p }, "repaint", "");
 }
 
@@ -427,7 +429,7 @@ static void add_changes(const char *name, struct load *load, void (*fill)(struct
     random_bytes(&g, load->ram, RAM);
     fill(load, &g);
     uint64_t need = plain_changes(load->chips, CHIPS, load->ram, RAM, load->trace.bytes, load->trace.len, no_room, 0);
-    add((struct job){ .unit = "record", .side = { "archive", "plain" }, .units = RECORDS_MAX, .limit = CHANGES_LIMIT,
+    add((struct job){ .unit = "record", .side = { "archive", OTHER_SIDE }, .units = RECORDS_MAX, .limit = CHANGES_LIMIT,
                       .place = pedralume_place(need), .entries = ENTRIES_MAX,
                       .prepare = prepare_changes, .work = work_changes, .input = load }, "changes", name);
 }

@@ -1,6 +1,6 @@
 #!/bin/sh
-# The instructions that one turn takes, on the archive and on the plain implementation, for each record, frame or repaint, of each job of the
-# bench that has both. They are counted by valgrind's callgrind within the bench's function measured, and one run of `bench once` takes all
+# The instructions that one turn takes, on the archive and on the plain implementation or what stands in its place, for each record, frame or
+# repaint, of each job of the bench that has both. They are counted by valgrind's callgrind within the bench's function measured, and one run of `bench once` takes all
 # turns. It ends with status 1 where valgrind is missing or the counts are not those of the turns. Usage: instructions.sh BENCH FOLDER, the
 # last a folder to work in.
 set -u
@@ -22,7 +22,7 @@ awk '
     { units[jobs] = $1; unit[jobs] = $2; sub(/^[^ ]+ [^ ]+ /, ""); name[jobs++] = $0 }
     END {
         if (jobs == 0 || dumps != 2 * jobs + 1) { print "instructions: " dumps " counts for " jobs " jobs" > "/dev/stderr"; exit 1 }
-        printf "instructions: one turn of each job, by callgrind\n  %-41s %10s %10s\n", "job", "ours", "plain"
+        printf "instructions: one turn of each job, by callgrind\n  %-41s %10s %10s\n", "job", "ours", "other side"
         for (i = 0; i < jobs; i++)
             printf "  %-41s %10.1f %10.1f for each %s\n", name[i], total[2 * i] / units[i], total[2 * i + 1] / units[i], unit[i]
     }' "$folder/counts" "$folder/turns"
