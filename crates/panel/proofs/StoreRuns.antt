@@ -11,7 +11,7 @@ use lib.Dec.{ltb, eqb}
 use borrow.Author.Tests.{eqb-true}
 use Rattle.basics.specs.Choice.{if}
 use Rattle.basics.specs.Counts.{liesIn}
-use Rattle.basics.specs.Run.{Run, asRun, runOf}
+use Rattle.basics.specs.Run.{Run, asRun, answeredFirst, runOf}
 use Rattle.basics.proofs.Counts.{lies-in-none, lies-first}
 use Rattle.basics.proofs.Run.{run-accepted, run-refused, run-none}
 use Rattle.basics.proofs.RunOfPart.{Each}
@@ -22,7 +22,7 @@ use Rattle.sed1520.specs.Replies.{isByte, storesTo}
 use Rattle.sed1520.specs.declared.registers.Chip.{Chip}
 use Rattle.sed1520.specs.declared.bus.Record.{Record}
 use Rattle.sed1520.proofs.Cells.{next-cell}
-use Rattle.sed1520.proofs.CycleStores.{other-says, write-says}
+use Rattle.sed1520.proofs.CycleStores.{other-says, Written, write-says}
 use Rattle.panel.specs.Panel.{Panel, chipAt, ramAt, outcomeOf, stepped, panelStep, panelRun}
 use Rattle.panel.specs.Stores.{writeIndex}
 
@@ -72,48 +72,51 @@ module _ (k : ℕ) where
   none-stored : (p : Panel) (n : ℕ) → StoresFrom p (asRun n [] p)
   none-stored p n = record { page = refl; on = omega arith; stores = λ i. rw (lies-in-none (writeIndex p k) i) (stores-none i) }
 
-  -- where an accepted data write leaves its chip
-  moved : (p : Panel) (r : Record) → r .lines ≡ 3 → r .chip ≡ k → outcomeOf p r .answer .number ≡ 0
-      → writeIndex (stepped p r) k ≡ if (ltb (chipAt p k .column) 80) (writeIndex p k + 1) (writeIndex p k)
-  unfolding stepped outcomeOf
-  moved p r lines named done =
-      let c = chipAt p k in
-      let w = write-says r (chipAt p (r .chip)) (ramAt p (r .chip)) lines done in
-      let own = own-choice (eqb (r .chip) 0) (outcomeOf p r .answer .chip) (p .left) (p .right) in
-      rw (← named) (rw (own, w .page, w .column) (rw named (counted (ltb (c .column) 80) c)))
-    where
-      counted : (t : Bool) (c : Chip) → imageIndex k (c .page) (if t (c .column + 1) (c .column))
-          ≡ if t (imageIndex k (c .page) (c .column) + 1) (imageIndex k (c .page) (c .column))
-      counted true c = rw (next-cell (c .page) (c .column)) (omega arith)
-      counted false c = refl
+  -- an accepted data write: what it says, and where it leaves its chip
+  module _ (p : Panel) (r : Record) (lines : r .lines ≡ 3) (named : r .chip ≡ k) (done : outcomeOf p r .answer .number ≡ 0) where
+    abbrev below : Bool
+    below = ltb (chipAt p k .column) 80
 
-  page-kept : (p : Panel) (r : Record) → r .lines ≡ 3 → r .chip ≡ k → outcomeOf p r .answer .number ≡ 0
-      → chipAt (stepped p r) k .page ≡ chipAt p k .page
-  unfolding stepped outcomeOf
-  page-kept p r lines named done =
-      let w = write-says r (chipAt p (r .chip)) (ramAt p (r .chip)) lines done in
-      let own = own-choice (eqb (r .chip) 0) (outcomeOf p r .answer .chip) (p .left) (p .right) in
-      rw (← named) (rw own (w .page))
+    written : Written r (chipAt p (r .chip)) (ramAt p (r .chip))
+    unfolding outcomeOf
+    written = write-says r (chipAt p (r .chip)) (ramAt p (r .chip)) lines done
 
-  said : (p : Panel) (r : Record) → r .lines ≡ 3 → r .chip ≡ k → outcomeOf p r .answer .number ≡ 0
-      → storedIndex (outcomeOf p r .answer .stored) ≡ if (ltb (chipAt p k .column) 80) (some (writeIndex p k)) none
-  unfolding outcomeOf
-  said p r lines named done = rw (← named) (write-says r (chipAt p (r .chip)) (ramAt p (r .chip)) lines done .says)
+    own : chipAt (stepped p r) (r .chip) ≡ outcomeOf p r .answer .chip
+    unfolding stepped
+    own = own-choice (eqb (r .chip) 0) (outcomeOf p r .answer .chip) (p .left) (p .right)
+
+    says : storedIndex (outcomeOf p r .answer .stored) ≡ if below (some (writeIndex p k)) none
+    unfolding outcomeOf
+    says = rw (← named) (written .says)
+
+    page-kept : chipAt (stepped p r) k .page ≡ chipAt p k .page
+    unfolding outcomeOf
+    page-kept = rw (← named) (rw own (written .page))
+
+    moved : writeIndex (stepped p r) k ≡ if below (writeIndex p k + 1) (writeIndex p k)
+    unfolding outcomeOf
+    moved = rw (← named) (rw (own, written .page, written .column) (rw named (counted below (chipAt p k))))
+      where
+        counted : (t : Bool) (c : Chip) → imageIndex k (c .page) (if t (c .column + 1) (c .column))
+            ≡ if t (imageIndex k (c .page) (c .column) + 1) (imageIndex k (c .page) (c .column))
+        counted true c = rw (next-cell (c .page) (c .column)) (omega arith)
+        counted false c = refl
+
+    -- and records from there on
+    stored-before : (run : Run Panel Reply) → StoresFrom (stepped p r) run → StoresFrom p (answeredFirst (panelStep p r .answer) run)
+    stored-before run rest =
+        let from = rw moved at (rest .on) in
+        record {
+          page = rest .page ∙ page-kept;
+          on = still-on (writeIndex p k) _ 0 below from;
+          stores = λ i. stores-first i _ _ ∙ rw (says, rest .stores i, moved) (one-more (writeIndex p k) _ i below from);
+        }
 
   pub writes-store : (rs : List Record) → Each (λ (r : Record). (r .lines ≡ 3) × (r .chip ≡ k)) rs → (p : Panel) → StoresFrom p (panelRun p rs)
   writes-store [] each p = rw (run-none panelStep p) (none-stored p 0)
   writes-store (r ∷ rs) each p =
       ⊎-elim
-      (λ t. let done = eqb-true (outcomeOf p r .answer .number) 0 t in
-      let rest = writes-store rs (each .1) (stepped p r) in
-      let says = said p r (each .0 .0) (each .0 .1) done in
-      let from = rw (moved p r (each .0 .0) (each .0 .1) done) at (rest .on) in
-      rw (run-accepted panelStep p r rs t)
-      (record {
-        page = rest .page ∙ page-kept p r (each .0 .0) (each .0 .1) done;
-        on = still-on (writeIndex p k) _ 0 (ltb (chipAt p k .column) 80) from;
-        stores = λ i. stores-first i _ _
-            ∙ rw (says, rest .stores i, moved p r (each .0 .0) (each .0 .1) done) (one-more (writeIndex p k) _ i (ltb (chipAt p k .column) 80) from);
-      }))
+      (λ t. rw (run-accepted panelStep p r rs t)
+      (stored-before p r (each .0 .0) (each .0 .1) (eqb-true (outcomeOf p r .answer .number) 0 t) _ (writes-store rs (each .1) (stepped p r))))
       (λ t. rw (run-refused panelStep p r rs t) (none-stored p _))
       (tested (eqb (outcomeOf p r .answer .number) 0))

@@ -15,7 +15,7 @@ use Rattle.sed1520.specs.Replies.{comparedIn, differingIn}
 use Rattle.trace.specs.Feed.{keeping, keptBytes, joinedTo, cutOff}
 use Rattle.panel.specs.Trace.{traceRun}
 use Rattle.trace.specs.Wear.{worn}
-use Rattle.trace.proofs.WearCounts.{worn-none}
+use Rattle.trace.proofs.WearCounts.{worn-no-answers}
 use Rattle.trace.specs.declared.progress.Ending.{Ending}
 use Rattle.trace.specs.declared.progress.Progress.{Progress}
 
@@ -62,7 +62,7 @@ nothing-run p bytes answers h = rw (no-record bytes h)
 
 pub none-stored : (wear : List ℕ) (p : Panel) (bytes : List ℕ) → length bytes < 4 → wear ≡ worn wear (traceRun p bytes .answers)
 unfolding runOf
-none-stored wear p bytes h = rw (no-record bytes h) (worn-none wear)
+none-stored wear p bytes h = rw (no-record bytes h) (worn-no-answers wear)
 
 -- fewer than four bytes are cut off
 pub cut-off-length : (bytes : List ℕ) → length (cutOff bytes) ≡ length bytes % 4

@@ -28,7 +28,7 @@ use Rattle.trace.proofs.InPlace.{over-bytes-at}
 use Rattle.trace.proofs.Joined.{ended-all}
 use Rattle.trace.proofs.OverBytes.{fits-after, first-cut, both-run, cut-replies, both-replies}
 use Rattle.trace.specs.Wear.{AtMost, worn, repliesTogether}
-use Rattle.trace.proofs.WearCounts.{worn-none, worn-more, worn-bound}
+use Rattle.trace.proofs.WearCounts.{worn-no-answers, worn-more, worn-bound}
 
 -- what the first n of some records leave over chip bytes, on the panel that the bytes and the image say
 abbrev pub leftAfter : List ℕ → List ℕ → List Record → ℕ → List ℕ → InPlace Tally
@@ -79,7 +79,7 @@ module _ (chips₀ ram₀ trace buffer wear₀ : List ℕ) where
         within = omega arith;
         fits = fit;
         so-far = over-bytes-at fit fit refl;
-        so-worn = worn-none wear₀;
+        so-worn = worn-no-answers wear₀;
       }
 
 module _ {chips₀ ram₀ trace buffer wear₀ chips ram answers wear : List ℕ} {compared differing n : ℕ} (fit : BothPass chips₀ ram₀)

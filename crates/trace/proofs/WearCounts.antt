@@ -60,9 +60,9 @@ pub raised-none : (wear : List ℕ) (at : ℕ) → raised wear at at ≡ wear
 raised-none wear at = sym (raise-all (raise-none wear at) at (λ i h. refl))
 
 -- no wear, nothing counted
-pub none-worn : (wear : List ℕ) (answers : List Reply) → length wear ≡ 0 → wear ≡ worn wear answers
+pub worn-no-wear : (wear : List ℕ) (answers : List Reply) → length wear ≡ 0 → wear ≡ worn wear answers
 unfolding worn
-none-worn wear answers none = tabulated-is _ 0 (length wear) wear refl (λ i h. absurd (omega arith))
+worn-no-wear wear answers none = tabulated-is _ 0 (length wear) wear refl (λ i h. absurd (omega arith))
 
 -- answers that store nowhere, nothing counted
 pub worn-unstored : (wear : List ℕ) (answers : List Reply) → ((i : ℕ) → storesTo i answers ≡ 0) → wear ≡ worn wear answers
@@ -120,9 +120,9 @@ none-counted n i =
     (tested (ltb i n))
 
 -- no answers, nothing is counted
-pub worn-none : (wear : List ℕ) → wear ≡ worn wear []
+pub worn-no-answers : (wear : List ℕ) → wear ≡ worn wear []
 unfolding storesTo
-worn-none wear = worn-unstored wear [] (λ i. refl)
+worn-no-answers wear = worn-unstored wear [] (λ i. refl)
 
 pub worn-bound : (most : ℕ) (wear : List ℕ) (answers : List Reply) → AtMost most wear → AtMost (most + length answers) (worn wear answers)
 unfolding worn

@@ -29,7 +29,7 @@ use Rattle.trace.proofs.FeedCases.{part-right}
 use Rattle.trace.proofs.KeptOver.{joined-length, no-record}
 use Rattle.trace.proofs.ReplayNumbers.{passes}
 use Rattle.trace.proofs.WithWear.{part-open}
-use Rattle.trace.proofs.WearCounts.{stores-at, stores-total, worn-none, worn-cleared}
+use Rattle.trace.proofs.WearCounts.{stores-at, stores-total, worn-no-answers, worn-cleared}
 
 -- passed by its table, it leaves the wear of the run
 pub replay-wear : (p : Panel) (trace answers wear : List ℕ) → Replayable p trace answers → length wear ≡ 640
@@ -49,7 +49,7 @@ part-wear f ram part answers wear e none =
 
 -- no answers, no stores
 no-stores : (n : ℕ) → storesIn [] n ≡ replicate n 0
-no-stores n = sym (worn-none (replicate n 0) ∙ worn-cleared n [])
+no-stores n = sym (worn-no-answers (replicate n 0) ∙ worn-cleared n [])
 
 none-completed : (f : Feed) (ram part answers wear : List ℕ) → f .progress .ending ≡ Open → NoneHolds (partWearTable f ram part answers wear)
     → completedBy (f .progress .kept) (length part) ≡ 0 → partWithWear f ram part answers wear .wear ≡ replicate 640 0

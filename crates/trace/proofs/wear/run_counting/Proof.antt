@@ -5,7 +5,7 @@ use mathlib.Core.Path.{_≡_, _∙_}
 use lib.ListN.{length, getD}
 use borrow.Author.Needs.{needs}
 use Rattle.basics.proofs.Halves.{start-within}
-use Rattle.trace.proofs.WearCounts.{none-worn}
+use Rattle.trace.proofs.WearCounts.{worn-no-wear}
 use Rattle.trace.proofs.WearRuns.{enough, counted, not-moved}
 use Rattle.trace.proofs.wear.run_counting.Statement.{statement}
 use Rattle.trace.proofs.wear.run_counting.Tie as tie
@@ -29,7 +29,7 @@ within c = (
 )
 
 returns : tie.Need-returns
-returns c = (ran (c .before) .run-of-tested-chips .ensures .0, none-worn _ _ (omega (arith, c .if1 .taken)))
+returns c = (ran (c .before) .run-of-tested-chips .ensures .0, worn-no-wear _ _ (omega (arith, c .if1 .taken)))
 
 returns-2 : tie.Need-returns-2
 returns-2 c =
