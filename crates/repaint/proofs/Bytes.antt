@@ -2,24 +2,83 @@
 use Prim.Native.Nat.{ℕ, suc, _+_, _-_, _*_, _≤_}
 use native.Mathlib.Omega.{arith}
 use native.Mathlib.Numerals.{add-one}
-use mathlib.Core.Path.{_≡_, refl, _∙_}
+use mathlib.Core.Path.{_≡_, refl, sym, ap, _∙_}
+use mathlib.Core.Bool.{Bool, not, _&&_}
 use mathlib.Core.List.{List, [], _∷_, _++_, flatMap, append-assoc, append-nil}
 use lib.ListN.{length, take, drop, set}
 use lib.Seq.{sets-eq}
 use Rattle.basics.specs.Lists.{tabulated}
+use Rattle.basics.specs.Verdict.{Result, result}
 use Rattle.basics.proofs.Filling.{Begun, begun-rest}
-use Rattle.basics.proofs.Lists.{joined-more, tabulated-length}
+use Rattle.basics.proofs.Lists.{joined-more, joined-next, tabulated-length}
 use Rattle.sed1520.specs.Laws.{sent}
 use Rattle.sed1520.specs.Records.{recordBytes, recordsBytes}
 use Rattle.sed1520.specs.declared.registers.Chip.{Chip}
 use Rattle.sed1520.specs.declared.bus.Record.{Record}
 use Rattle.sed1520.proofs.Records.{bytes-append, bytes-length}
 use Rattle.frame.specs.Frame.{segments}
+use Rattle.repaint.specs.Sparing.{passesBefore, columnRecords, columnsRecords, chosenRecords, bothRecords, putFront}
+use Rattle.repaint.proofs.Counts.{both-length, both-few}
+use Rattle.repaint.proofs.ChosenColumns.{at-most-one, cycles-few, column-length, columns-length, chosen-length, chosen-few}
 use Rattle.repaint.specs.Repaint.{columnSegment, pictureByte, columnWrite, pageRecords, turn, repaintRecords}
 
 -- four bytes written to the front
 pub four-written : (l : List ℕ) (a b c d : ℕ) → 4 ≤ length l → set (set (set (set l 0 a) 1 b) 2 c) 3 d ≡ a ∷ b ∷ c ∷ d ∷ drop 4 l
 four-written l a b c d h = sets-eq (a ∷ b ∷ c ∷ d ∷ []) l 0 h
+
+-- records put to the front of the rest, lent as a part, and what all of them come to
+pub begun-put : (rs more : List Record) {old : List ℕ} {at : ℕ} {now : List ℕ} → Begun old (recordsBytes rs) at now
+    → {n : ℕ} {part : List ℕ} → result n part ≡ putFront more (take (length now - at) (drop at now))
+    → Begun old (recordsBytes (rs ++ more)) (at + n) (take at now ++ (part ++ drop (length now - at) (drop at now)))
+begun-put rs more begun {n} {part} e =
+    let many : n ≡ 4 * length more = ap (λ (o : Result ℕ (List ℕ)). o .answer) e in
+    let bytes = ap (λ (o : Result ℕ (List ℕ)). o .lent) e in
+    rw (bytes-append rs more) (begun-rest begun (recordsBytes more) (bytes-length more ∙ sym many) (rw (← many) at bytes))
+
+pub begun-record : (rs : List Record) (r : Record) {old : List ℕ} {at : ℕ} {now : List ℕ} → Begun old (recordsBytes rs) at now
+    → {part : List ℕ} → part ≡ recordBytes r ++ drop 4 (take (length now - at) (drop at now))
+    → Begun old (recordsBytes (rs ++ (r ∷ []))) (at + 4) (take at now ++ (part ++ drop (length now - at) (drop at now)))
+unfolding flatMap
+begun-record rs r begun e = rw (bytes-append rs (r ∷ [])) (begun-rest begun (recordBytes r) refl e)
+
+pub front-begun : (rs : List Record) {old : List ℕ} {n : ℕ} {now : List ℕ} → result n now ≡ putFront rs old → Begun old (recordsBytes rs) n now
+front-begun rs e =
+    let many = ap (λ (o : Result ℕ (List ℕ)). o .answer) e in
+    record { size = bytes-length rs ∙ sym many; bytes = ap (λ (o : Result ℕ (List ℕ)). o .lent) e ∙ rw many }
+
+pub begun-front : (rs : List Record) {old : List ℕ} {at : ℕ} {now : List ℕ} → Begun old (recordsBytes rs) at now → result at now ≡ putFront rs old
+begun-front rs begun = let many = sym (begun .size) ∙ bytes-length rs in rw (begun .bytes, many)
+
+-- a column takes two records at most
+pub column-few : (c : Chip) (chip : ℕ) (picture : List ℕ) (r : ℕ) (before here : Bool) (j : ℕ) {n : ℕ}
+    → n ≡ 4 * length (columnRecords c chip picture r before here j) → n ≤ 8
+column-few c chip picture r before here j many =
+    omega (arith, many, column-length c chip picture r before here j, at-most-one here, at-most-one (here && not before))
+
+-- the columns that pass a test, so far, and the next one
+module _ (c : Chip) (chip : ℕ) (picture : List ℕ) (r : ℕ) (test : ℕ → Bool) (j : ℕ) {old : List ℕ} {at : ℕ} {now : List ℕ}
+    (begun : Begun old (recordsBytes (columnsRecords c chip picture r test 0 j)) at now) where
+  pub begun-column : {before here : Bool} → before ≡ passesBefore test j → here ≡ test j
+      → {n : ℕ} {part : List ℕ} → result n part ≡ putFront (columnRecords c chip picture r before here j) (take (length now - at) (drop at now))
+      → Begun old (recordsBytes (columnsRecords c chip picture r test 0 (j + 1))) (at + n)
+      (take at now ++ (part ++ drop (length now - at) (drop at now)))
+  begun-column was is e =
+      let f : ℕ → List Record = λ i. columnRecords c chip picture r (passesBefore test i) (test i) i in
+      rw (joined-next f j) (begun-put (columnsRecords c chip picture r test 0 j) (f j) begun (rw (was, is) at e))
+
+  pub columns-few : at ≤ 4 * (j + 1)
+  columns-few =
+      let all = columnsRecords c chip picture r test 0 j in
+      omega (arith, begun .size, bytes-length all, columns-length test c chip picture r j, cycles-few test j, at-most-one (passesBefore test j))
+
+-- a page takes 252 bytes at most
+pub chosen-bytes : (c : Chip) (chip : ℕ) (picture : List ℕ) (r : ℕ) (test : ℕ → Bool) {n : ℕ}
+    → n ≡ 4 * length (chosenRecords c chip picture r test) → n ≤ 252
+chosen-bytes c chip picture r test many = omega (arith, many, chosen-length test c chip picture r, chosen-few test)
+
+-- both pages of a chip take 504 bytes at most
+pub both-bytes : (c : Chip) (chip : ℕ) (ram picture : List ℕ) {n : ℕ} → n ≡ 4 * length (bothRecords c chip ram picture) → n ≤ 504
+both-bytes c chip ram picture many = omega (arith, many, both-length c chip ram picture, both-few c chip ram picture)
 
 -- one write more goes to the end
 module _ (c : Chip) (chip : ℕ) (picture : List ℕ) (r : ℕ) where

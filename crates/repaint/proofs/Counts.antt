@@ -1,5 +1,7 @@
--- How many records a repaint has: 63 for a hidden page, 252 for the four, 254 in all; and how many bytes.
-use Prim.Native.Nat.{ℕ, suc, _*_}
+-- How many records a repaint has: 63 for a hidden page, 252 for the four, 254 in all; and how many bytes. A sparing repaint has as many as its rule
+-- counts, at least 2 and at most 254.
+use Prim.Native.Nat.{ℕ, suc, _*_, _≤_}
+use native.Mathlib.Omega.{arith}
 use mathlib.Core.Path.{_≡_, ap, _∙_}
 use mathlib.Core.List.{List}
 use lib.ListN.{length, length-append}
@@ -8,7 +10,10 @@ use Rattle.sed1520.specs.Records.{recordsBytes}
 use Rattle.sed1520.specs.declared.registers.Chip.{Chip}
 use Rattle.sed1520.proofs.Records.{bytes-length}
 use Rattle.frame.specs.Frame.{segments}
+use Rattle.panel.specs.Panel.{Panel, ramAt}
 use Rattle.repaint.specs.Repaint.{columnWrite, pageRecords, hiddenPages}
+use Rattle.repaint.specs.Sparing.{differs, bothRecords, sparingPages, bothCycles, sparingQuiet}
+use Rattle.repaint.proofs.ChosenColumns.{chosen-length, chosen-few}
 
 pub page-length : (c : Chip) (k : ℕ) (picture : List ℕ) (r : ℕ) → length (pageRecords c k picture r) ≡ 63
 unfolding pageRecords
@@ -19,3 +24,17 @@ page-bytes c k picture r = bytes-length (pageRecords c k picture r) ∙ ap (λ n
 
 pub pages-length : (left right : Chip) (picture : List ℕ) → length (hiddenPages left right picture) ≡ 252
 pages-length left right picture = simp (length-append, page-length)
+
+module _ (c : Chip) (k : ℕ) (ram picture : List ℕ) where
+  pub both-length : length (bothRecords c k ram picture) ≡ bothCycles c k ram picture
+  both-length = simp (length-append, chosen-length)
+
+  pub both-few : bothCycles c k ram picture ≤ 126
+  both-few = omega (arith, chosen-few (differs c k ram picture 0), chosen-few (differs c k ram picture 1))
+
+module _ (p : Panel) (picture : List ℕ) where
+  pub sparing-length : length (sparingPages p picture) ≡ sparingQuiet p picture
+  sparing-length = simp (length-append, chosen-length)
+
+  pub sparing-few : sparingQuiet p picture ≤ 252
+  sparing-few = omega (arith, both-few (p .left) 0 (ramAt p 0) picture, both-few (p .right) 1 (ramAt p 1) picture)

@@ -3,6 +3,7 @@ pub mod Sides
 pub mod Quiet
 pub mod Painting
 pub mod Small
+pub mod ChosenColumns
 pub mod Page
 pub mod Turn
 pub mod Plan
@@ -10,6 +11,9 @@ pub mod Pages
 pub mod Counts
 pub mod Bytes
 pub mod RepaintCases
+pub mod SparingCases
+pub mod LongestRuns
 pub mod ReadyChips
 pub mod TearFree
+pub mod EndAlike
 pub mod Examples

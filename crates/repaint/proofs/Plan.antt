@@ -8,6 +8,7 @@ use mathlib.Core.List.{List, [], _∷_, _++_}
 use lib.ListN.{length, getD, take, replicate, length-append, length-replicate}
 use lib.Seq.{take-length, take-append-le, take-append-add}
 use Rattle.basics.proofs.Run.{Stops, stops-none, stops-first, stops-join, stops-weaker, state-none, state-first, state-join}
+use Rattle.sed1520.specs.Memory.{byteAt}
 use Rattle.panel.specs.Panel.{Panel, chipAt, ramAt, stepped, panelStep, after}
 use Rattle.sed1520.specs.declared.bus.Record.{Record}
 use Rattle.frame.specs.Frame.{frameLength, frameOf}
@@ -15,13 +16,20 @@ use Rattle.frame.proofs.HalfLaws.{half-laws}
 use Rattle.repaint.specs.Repaint.{pictureLength, turn, lineTurns}
 use Rattle.repaint.specs.TearFree.{BothReady, SameHalf, wanted}
 use Rattle.repaint.proofs.Quiet.{Quiet, Still, still-ready, ready-at, quiet-at, quiet-ready, quiet-frame, half-same, halves-same}
-use Rattle.repaint.proofs.Page.{BandHeld}
+use Rattle.repaint.specs.SparingPromises.{BandHeld}
+use Rattle.repaint.proofs.Page.{InBand}
 use Rattle.repaint.proofs.Turn.{Turned, TurnDone, turn-done, half-wanted}
+
+-- the hidden pages of a panel hold the picture on another panel, and every other byte is as it was
+pub record Brought (p : Panel) (picture : List ℕ) (s : Panel) : Type 0 where
+  pub held : (k r : ℕ) → k < 2 → r < 2 → BandHeld (chipAt p k) k picture r (ramAt s k)
+  pub others : (k : ℕ) → k < 2 → (page column : ℕ) → column < 80 → ((r : ℕ) → r < 2 → InBand (chipAt p k) r page column → ⊥)
+      → byteAt (ramAt s k) page column ≡ byteAt (ramAt p k) page column
 
 -- the quiet records of a plan
 pub record Plan (p : Panel) (picture : List ℕ) (hidden : List Record) : Type 0 where
   pub quiet : Stops panelStep (Quiet p) p hidden
-  pub held : (k r : ℕ) → k < 2 → r < 2 → BandHeld (chipAt p k) k picture r (ramAt (after p hidden) k)
+  pub brought : Brought p picture (after p hidden)
 
 -- what a repaint of any length does
 pub record Repaints (p : Panel) (picture : List ℕ) (n : ℕ) (records : List Record) : Type 0 where
@@ -30,6 +38,7 @@ pub record Repaints (p : Panel) (picture : List ℕ) (n : ℕ) (records : List R
   pub before : (k : ℕ) → k ≤ n → frameOf (after p (take k records)) ≡ frameOf p
   pub turned : let t = after p (take (n + 1) records) in SameHalf 0 (frameOf t) (wanted picture) × SameHalf 1 (frameOf t) (frameOf p)
   pub whole : frameOf (after p (take (n + 2) records)) ≡ wanted picture
+  pub brought : Brought p picture (after p (take (n + 2) records))
 
 wanted-length : (picture : List ℕ) → length picture ≡ pictureLength → length (wanted picture) ≡ frameLength
 wanted-length picture size =
@@ -54,7 +63,7 @@ module _
   left-turn : TurnDone (p .left) 0 picture written half-way
   left-turn =
       turn-done (p .left) (ready .left) 0 (omega arith) picture written (quiet .whole) (ramAt p 0) (quiet .still 0)
-      (λ r h. plan .held 0 r (omega arith) h)
+      (λ r h. plan .brought .held 0 r (omega arith) h)
 
   right-chip : chipAt half-way 1 ≡ chipAt written 1
   right-chip = left-turn .other-chip 1 false≢true
@@ -68,7 +77,7 @@ module _
   right-turn : TurnDone (p .right) 1 picture half-way done
   right-turn =
       turn-done (p .right) (ready .right) 1 (omega arith) picture half-way (left-turn .whole) (ramAt p 1) right-still
-      (λ r h. rw right-ram (plan .held 1 r (omega arith) h))
+      (λ r h. rw right-ram (plan .brought .held 1 r (omega arith) h))
 
   left-done : Turned (p .left) 0 picture (chipAt done 0) (ramAt done 0)
   left-done = rw (right-turn .other-chip 0 true≢false, right-turn .other-ram 0 true≢false) (left-turn .own)
@@ -79,6 +88,19 @@ module _
 
   done-ready : BothReady done
   done-ready = record { left = left-done .ready; right = right-turn .own .ready; ram = right-turn .whole .image }
+
+  -- the turns leave all RAM as it was
+  ram-written : (k : ℕ) → k < 2 → ramAt done k ≡ ramAt written k
+  ram-written zero h = right-turn .other-ram 0 true≢false ∙ left-turn .own-ram
+  ram-written (suc zero) h = right-turn .own-ram ∙ right-ram
+  ram-written (suc (suc k)) h = absurd (omega arith)
+
+  done-brought : Brought p picture done
+  done-brought =
+      record {
+        held = λ k r side band. rw (ram-written k side) (plan .brought .held k r side band);
+        others = λ k side page column h out. rw (ram-written k side) (plan .brought .others k side page column h out);
+      }
 
   abbrev turns : List Record
   turns = lineTurns (p .left) (p .right)
@@ -120,4 +142,5 @@ module _
             (half-wanted (p .right) 1 picture size bytes done (right-turn .own))
             (half-laws .whole done)
             (wanted-length picture size));
+        brought = rw after-both done-brought;
       }

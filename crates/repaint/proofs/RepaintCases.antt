@@ -9,7 +9,7 @@ use lib.Dec.{ltb, eqb}
 use lib.ListN.{length, drop}
 use borrow.Author.Needs.{needs}
 use borrow.Author.Tests.{eqb-true, eq-eqb, ltb-false, le-ltb, not-false}
-use Rattle.basics.specs.Table.{Cause}
+use Rattle.basics.specs.Table.{Cause, First, NoneHolds}
 use Rattle.basics.specs.Verdict.{verdict, Result, result}
 use Rattle.basics.specs.declared.verdict.Verdict.{Verdict}
 use Rattle.basics.proofs.Table.{first-refuses, none-refuses, refusing-line, passing-table}
@@ -39,6 +39,21 @@ sizes-in-numbers =
           (tested (repaintSizesWrong picture buffer));
     }
 
+-- the verdict on both chips: a number is that of a line, and with number 0 no line holds
+module _ (left right : Chip) (v : Verdict) (e : v ≡ chipsVerdict left right) where
+  pub chip-refused : (v .number ≡ 0 → ⊥) → First (readyTable left right) (v .number) (v .place)
+  unfolding chipsVerdict
+  chip-refused = refusing-line (readyTable left right) v 254 e
+
+  pub chips-pass : v .number ≡ 0 → NoneHolds (readyTable left right)
+  unfolding chipsVerdict
+  chips-pass = passing-table (readyTable left right) v 254 e (search needs)
+
+  -- and then it is done, with place 254
+  chips-done : v .number ≡ 0 → v ≡ verdict 0 254
+  unfolding chipsVerdict
+  chips-done zero = e ∙ none-refuses verdict (verdict 0 254) (readyTable left right) (chips-pass zero)
+
 module _ (left right : Chip) (picture buffer : List ℕ) where
   -- the lines of a call, and what is given where none holds
   abbrev table : List Cause
@@ -55,17 +70,16 @@ module _ (left right : Chip) (picture buffer : List ℕ) where
   -- the sizes right, and then the verdict on both chips: a number refuses, and number 0 gives the records
   module _ (sizes : repaintSizesWrong (length picture) (length buffer) ≡ false) (v : Verdict) (e : v ≡ chipsVerdict left right) where
     pub chips-refused : (v .number ≡ 0 → ⊥) → result v buffer ≡ repaintOf left right picture buffer
-    unfolding repaintOf chipsVerdict
+    unfolding repaintOf
     chips-refused nonzero =
-        let line = refusing-line (readyTable left right) v 254 e nonzero in
-        sym (first-refuses (λ n at. result (verdict n at) buffer) given table (v .number) (v .place) (inr (sizes, line)))
+        sym (first-refuses (λ n at. result (verdict n at) buffer) given table (v .number) (v .place)
+        (inr (sizes, chip-refused left right v e nonzero)))
 
     pub chips-ready : v .number ≡ 0 → {after : List ℕ} → after ≡ given .lent → result v after ≡ repaintOf left right picture buffer
-    unfolding repaintOf chipsVerdict
+    unfolding repaintOf
     chips-ready zero written =
-        let none = passing-table (readyTable left right) v 254 e (search needs) zero in
-        rw (written, e ∙ none-refuses verdict (verdict 0 254) (readyTable left right) none)
-        (sym (none-refuses (λ n at. result (verdict n at) buffer) given table (sizes, none)))
+        rw (written, chips-done left right v e zero)
+        (sym (none-refuses (λ n at. result (verdict n at) buffer) given table (sizes, chips-pass left right v e zero)))
 
 pub repaint-numbers : RepaintNumbers
 unfolding repaintOf

@@ -28,7 +28,7 @@ use Rattle.repaint.specs.TearFree.{Ready, SameHalf, wanted}
 use Rattle.repaint.proofs.Sides.{Moved, taken, moved}
 use Rattle.repaint.proofs.Quiet.{shownPage, Still, two-pages}
 use Rattle.repaint.proofs.Small.{line-small}
-use Rattle.repaint.proofs.Page.{BandHeld}
+use Rattle.repaint.specs.SparingPromises.{BandHeld}
 
 -- a chip d that was c before its start line turned, with both bands of the picture's half in RAM
 pub record Turned (c : Chip) (k : ℕ) (picture : List ℕ) (d : Chip) (ram : List ℕ) : Type 0 where
@@ -90,6 +90,7 @@ half-wanted c k picture size bytes t turned =
 pub record TurnDone (c : Chip) (k : ℕ) (picture : List ℕ) (q s : Panel) : Type 0 where
   pub taken : outcomeOf q (turn c k) .answer .number ≡ 0
   pub own : Turned c k picture (chipAt s k) (ramAt s k)
+  pub own-ram : ramAt s k ≡ ramAt q k
   pub whole : Whole s
   pub other-chip : (j : ℕ) → (eqb j 0 ≡ eqb k 0 → ⊥) → chipAt s j ≡ chipAt q j
   pub other-ram : (j : ℕ) → (eqb j 0 ≡ eqb k 0 → ⊥) → ramAt s j ≡ ramAt q j
@@ -131,6 +132,7 @@ module _
           reverse = ap (λ (g : PaintRegisters). g .shown .reverse) after ∙ ap (λ (s : ShownRegisters). s .reverse) (sym (still .shown));
           bands = λ r h. rw (move .ram-after) (bands r h);
         };
+        own-ram = move .ram-after;
         whole = move .whole;
         other-chip = move .other-chip;
         other-ram = move .other-ram;

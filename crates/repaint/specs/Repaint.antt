@@ -58,10 +58,14 @@ pictureByte picture chip n r = getD picture (framePlace chip n r) 0
 abbrev pub columnWrite : Chip → ℕ → List ℕ → ℕ → ℕ → Record
 columnWrite c chip picture r j = sent 3 chip (pictureByte picture chip (columnSegment c j) r)
 
+-- the record that sets the hidden page for band r
+abbrev pub pageSet : Chip → ℕ → ℕ → Record
+pageSet c chip r = sent 2 chip (first Page + hiddenPage c r)
+
 -- the records that write band r of the picture to its hidden page: page set, column set, 61 data writes
 unfoldable pub pageRecords : Chip → ℕ → List ℕ → ℕ → List Record
 pageRecords c chip picture r =
-    sent 2 chip (first Page + hiddenPage c r) ∷ sent 2 chip (first Column + lowestColumn c) ∷ tabulated (columnWrite c chip picture r) 0 segments
+    pageSet c chip r ∷ sent 2 chip (first Column + lowestColumn c) ∷ tabulated (columnWrite c chip picture r) 0 segments
 
 -- a chip's start line turned from 0 to 16 or from 16 to 0
 abbrev pub turnedLine : Chip → ℕ

@@ -14,7 +14,7 @@ use sed1520::commands::Opcode;
 use sed1520::registers::Chip;
 
 // The 4 bytes of a record.
-fn put_record(lines: u8, which: u8, byte: u8, output: &mut [u8])
+pub(crate) fn put_record(lines: u8, which: u8, byte: u8, output: &mut [u8])
     requires { ⌜ 4 ≤ length (now output) ⌝ }
     ensures { λ _. ⌜ now (output .exit) ≡ recordBytes (sent lines which byte) ++ drop 4 (now (output .entry)) ⌝ }
 {
@@ -25,7 +25,7 @@ fn put_record(lines: u8, which: u8, byte: u8, output: &mut [u8])
 }
 
 // The hidden page that takes a band of the picture.
-fn hidden_page(chip: Chip, band: u8) -> u8
+pub(crate) fn hidden_page(chip: Chip, band: u8) -> u8
     requires { ⌜ band < 2 ⌝ }
     ensures { λ r. ⌜ r ≡ hiddenPage chip band ⌝ }
 {
@@ -36,14 +36,14 @@ fn hidden_page(chip: Chip, band: u8) -> u8
 const LOWEST_IN_REVERSE: u8 = Chip::COLUMN_STOP - (Chip::SEGMENTS as u8);
 
 // The lowest RAM column that a segment is shown from.
-fn lowest_column(chip: Chip) -> u8
+pub(crate) fn lowest_column(chip: Chip) -> u8
     ensures { λ r. ⌜ r ≡ lowestColumn chip ⌝ }
 {
     if chip.reverse { LOWEST_IN_REVERSE } else { 0 }
 }
 
 // The segment that is shown from the j-th column, counted from the lowest.
-fn column_segment(chip: Chip, j: usize) -> usize
+pub(crate) fn column_segment(chip: Chip, j: usize) -> usize
     requires { ⌜ j < segments ⌝ }
     ensures { λ r. ⌜ r ≡ columnSegment chip j ⌝ }
 {
@@ -55,7 +55,7 @@ fn column_segment(chip: Chip, j: usize) -> usize
 }
 
 // The picture's byte of a chip's segment in a band.
-fn picture_byte(picture: &[u8], which: u8, n: usize, band: u8) -> u8
+pub(crate) fn picture_byte(picture: &[u8], which: u8, n: usize, band: u8) -> u8
     requires { ⌜ length (now picture) ≡ pictureLength ⌝ }
     requires { ⌜ n < segments ⌝ }
     requires { ⌜ band < 2 ⌝ }

@@ -1,5 +1,7 @@
-// The repaint: the 254 records that bring a 122 by 16 picture to the panel.
+// The repaint: the 254 records that bring a 122 by 16 picture to the panel; and the sparing repaint, which writes only the
+// bytes that differ.
 mod chip_plan;
+mod sparing_page;
 
 ghost use Prim.Native.Nat.{_<_, _≤_};
 ghost use mathlib.Core.Path.{_≡_};
@@ -9,9 +11,13 @@ ghost use Rattle.basics.specs.Verdict.{result};
 ghost use Rattle.sed1520.specs.Records.{recordsBytes};
 ghost use Rattle.repaint.specs.Repaint.{outputLength, pictureLength, repaintRecords, repaintSizesWrong, showsNoRam, wrongLine};
 ghost use Rattle.repaint.specs.Repaint.{chipsVerdict, repaintOf};
+ghost use Rattle.repaint.specs.Sparing.{putFront, sparingRecords, sparingSizesWrong, sparingOf};
+ghost use Rattle.panel.specs.Panel.{imageLength, asPanel};
 use crate::chip_plan::put_page;
 use crate::chip_plan::put_turn;
+use crate::sparing_page::put_both_changed;
 use basics::verdict::Verdict;
+use panel::chips::IMAGE_BYTES;
 use sed1520::bus::RECORD_BYTES;
 use sed1520::registers::Chip;
 
@@ -38,6 +44,16 @@ fn sizes_wrong(picture: usize, output: usize) -> bool
         return true;
     }
     output < OUTPUT_BYTES
+}
+
+// Number 1 of a sparing repaint: also an image that is not 640 bytes.
+fn sparing_sizes_wrong(ram: usize, picture: usize, output: usize) -> bool
+    ensures { λ r. ⌜ r ≡ sparingSizesWrong ram picture output ⌝ }
+{
+    if ram != IMAGE_BYTES {
+        return true;
+    }
+    sizes_wrong(picture, output)
 }
 
 // Number 9: display off, or static drive on.
@@ -100,6 +116,50 @@ pub fn repaint(left: Chip, right: Chip, picture: &[u8], output: &mut [u8]) -> Ve
     let verdict = chips_verdict(left, right);
     if verdict.number == 0 {
         put_records(left, right, picture, output);
+    }
+    verdict
+}
+
+// The records of a sparing repaint, written to the front of the output buffer; gives the bytes that they are.
+fn put_sparing(left: Chip, right: Chip, ram: &[u8], picture: &[u8], output: &mut [u8]) -> usize
+    requires { ⌜ length (now ram) ≡ imageLength ⌝ }
+    requires { ⌜ length (now picture) ≡ pictureLength ⌝ }
+    requires { ⌜ outputLength ≤ length (now output) ⌝ }
+    ensures { λ r. ⌜ result r (now (output .exit))
+        ≡ putFront (sparingRecords (asPanel left right (now (ram .entry))) (now (picture .entry))) (now (output .entry)) ⌝ }
+{
+    let half = put_both_changed(left, 0, &ram[0..Chip::RAM_WIDTH], picture, output);
+    let pages = half
+        + put_both_changed(
+            right,
+            1,
+            &ram[Chip::RAM_WIDTH..],
+            picture,
+            &mut output[half..],
+        );
+    put_turn(left, 0, &mut output[pages..]);
+    put_turn(right, 1, &mut output[pages + RECORD_BYTES..]);
+    pages + 2 * RECORD_BYTES
+}
+
+// The sparing repaint of a picture on two chips and their image, into an output buffer of at least 1,016 bytes.
+pub fn sparing_repaint(
+    left: Chip,
+    right: Chip,
+    ram: &[u8],
+    picture: &[u8],
+    output: &mut [u8],
+) -> Verdict
+    ensures { λ r. ⌜ result r (now (output .exit))
+        ≡ sparingOf (asPanel left right (now (ram .entry))) (now (picture .entry)) (now (output .entry)) ⌝ }
+{
+    if sparing_sizes_wrong(ram.len(), picture.len(), output.len()) {
+        return Verdict::new(1, 0);
+    }
+    let verdict = chips_verdict(left, right);
+    if verdict.number == 0 {
+        let bytes = put_sparing(left, right, ram, picture, output);
+        return Verdict::new(0, (bytes / RECORD_BYTES) as u64);
     }
     verdict
 }
