@@ -9,6 +9,7 @@ use Rattle.trace.proofs.Bounds.{Few, replay-bounded, in-place-bounded}
 use Rattle.sed1520.specs.declared.tally.Tally.{Tally}
 use Rattle.frame.proofs.FrameCases.{places-small}
 use Rattle.repaint.proofs.RepaintCases as repaint
+use Rattle.repaint.proofs.SparingCases as sparing
 use Rattle.visible.proofs.ChangesCases as changes
 use Rattle.pedralume.specs.Promises.{Unpacks, Small, AnswersUnpack}
 
@@ -39,4 +40,5 @@ answers-unpack =
       frame-place = places-small;
       changes-place = changes.places-small;
       repaint-place = repaint.places-small;
+      sparing-place = sparing.places-small;
     }

@@ -17,6 +17,7 @@ use Rattle.panel.specs.Panel.{asPanel}
 use Rattle.panel.proofs.TwoChips.{left-passes, right-passes}
 use Rattle.frame.specs.Frame.{framed}
 use Rattle.repaint.specs.Repaint.{repaintOf}
+use Rattle.repaint.specs.Sparing.{sparingOf}
 use Rattle.visible.specs.Changes.{changesOf}
 use Rattle.pedralume.specs.Call.{packedWith, onChips, packedFilled}
 use Rattle.pedralume.specs.Refusals.{bytesTable, CallsRefuse}
@@ -51,7 +52,7 @@ not-refused : (wrong : Bool) (chips buffer : List ℕ) (call : Chip → Chip →
 not-refused wrong chips buffer call none = on-chips chips buffer call (eqb-true (length chips) 24 (not-false _ (none .0)))
 
 pub calls-refuse : CallsRefuse
-unfolding framed repaintOf changesOf
+unfolding framed repaintOf sparingOf changesOf
 calls-refuse =
     record {
       frame =
@@ -60,10 +61,14 @@ calls-refuse =
       repaint =
           λ chips picture buffer. refuses _ chips buffer (λ l r. packedFilled (repaintOf l r picture buffer))
           (λ l r e. rw e) (λ l r s out. rw (s, out)) (λ l r s within out. rw (s, within, out));
+      sparing =
+          λ chips ram picture buffer. refuses _ chips buffer (λ l r. packedFilled (sparingOf (asPanel l r ram) picture buffer))
+          (λ l r e. rw e) (λ l r s out. rw (s, out)) (λ l r s within out. rw (s, within, out));
       changes =
           λ chips ram trace buffer. refuses _ chips buffer (λ l r. packedFilled (changesOf (asPanel l r ram) trace buffer))
           (λ l r e. rw e) (λ l r s out. rw (s, out)) (λ l r s within out. rw (s, within, out));
       frame-else = λ chips ram buffer. not-refused _ chips buffer (λ l r. packedFilled (framed (asPanel l r ram) buffer));
       repaint-else = λ chips picture buffer. not-refused _ chips buffer (λ l r. packedFilled (repaintOf l r picture buffer));
+      sparing-else = λ chips ram picture buffer. not-refused _ chips buffer (λ l r. packedFilled (sparingOf (asPanel l r ram) picture buffer));
       changes-else = λ chips ram trace buffer. not-refused _ chips buffer (λ l r. packedFilled (changesOf (asPanel l r ram) trace buffer));
     }

@@ -15,9 +15,10 @@ use Rattle.sed1520.specs.Replies.{InPlace}
 use Rattle.sed1520.specs.declared.tally.Tally.{Tally}
 use Rattle.frame.specs.Frame.{framed}
 use Rattle.repaint.specs.Repaint.{repaintOf}
+use Rattle.repaint.specs.Sparing.{sparingOf}
 use Rattle.visible.specs.Changes.{changesOf}
 
--- the 64-bit number that replay, frame, repaint and the list of changes give back: number, place, compared and differing, each in bits of its own
+-- the 64-bit number that replay, frame, both repaints and the list of changes give back: number, place, compared and differing, each in bits of its own
 abbrev pub packed : ℕ → ℕ → ℕ → ℕ → ℕ
 packed number place compared differing = number + 256 * place + 2 ^ 24 * compared + 2 ^ 40 * differing
 
@@ -48,6 +49,10 @@ frameCall chips ram buffer = onChips chips buffer (λ left right. packedFilled (
 -- the repaint's call, on the chips read from their bytes
 abbrev pub repaintCall : List ℕ → List ℕ → List ℕ → Result ℕ (List ℕ)
 repaintCall chips picture buffer = onChips chips buffer (λ left right. packedFilled (repaintOf left right picture buffer))
+
+-- the sparing repaint's call, on the chips read from their bytes
+abbrev pub sparingCall : List ℕ → List ℕ → List ℕ → List ℕ → Result ℕ (List ℕ)
+sparingCall chips ram picture buffer = onChips chips buffer (λ left right. packedFilled (sparingOf (asPanel left right ram) picture buffer))
 
 -- the call of the list of changes, on the chips read from their bytes
 abbrev pub changesCall : List ℕ → List ℕ → List ℕ → List ℕ → Result ℕ (List ℕ)

@@ -6,7 +6,7 @@ mod packing;
 pub mod version;
 
 ghost use mathlib.Core.Path.{_≡_};
-ghost use Rattle.pedralume.specs.Call.{replayCall, frameCall, repaintCall, changesCall};
+ghost use Rattle.pedralume.specs.Call.{replayCall, frameCall, repaintCall, sparingCall, changesCall};
 ghost use Rattle.basics.specs.Verdict.{result};
 ghost use Rattle.sed1520.specs.Replies.{inPlace};
 use crate::packing::pack;
@@ -55,6 +55,28 @@ pub extern "C" fn pedralume_repaint(chips: &[u8], picture: &[u8], output: &mut [
     let left = both.left;
     let right = both.right;
     let painted = repaint::repaint(left, right, picture, output);
+    pack(painted.number, painted.place, 0, 0)
+}
+
+// The records that bring a picture to the panel of the chips' bytes and the image, those bytes alone that differ from it, into
+// an output buffer.
+#[no_mangle]
+pub extern "C" fn pedralume_sparing_repaint(
+    chips: &[u8],
+    ram: &[u8],
+    picture: &[u8],
+    output: &mut [u8],
+) -> u64
+    ensures { λ r. ⌜ result r (now (output .exit))
+        ≡ sparingCall (now (chips .entry)) (now (ram .entry)) (now (picture .entry)) (now (output .entry)) ⌝ }
+{
+    if chips.len() != CHIPS_BYTES {
+        return pack(1, 0, 0, 0);
+    }
+    let both = chips_in(chips);
+    let left = both.left;
+    let right = both.right;
+    let painted = repaint::sparing_repaint(left, right, ram, picture, output);
     pack(painted.number, painted.place, 0, 0)
 }
 
