@@ -15,6 +15,14 @@ module _ {A : Type 0} (f : ℕ → List A) where
   joined-more at zero = let e : at + 0 ≡ at = omega arith in rw (e, append-nil)
   joined-more at (suc n) = let e : at + 1 + n ≡ at + suc n = omega arith in rw (joined-more (at + 1) n, e) (simp append-assoc)
 
+  pub joined-split : (at m n : ℕ) → joined f at (m + n) ≡ joined f at m ++ joined f (at + m) n
+  unfolding joined
+  joined-split at zero n = let e : 0 + n ≡ n = omega arith in let here : at + 0 ≡ at = omega arith in rw (e, here)
+  joined-split at (suc m) n =
+      let e : suc m + n ≡ suc (m + n) = omega arith in
+      let next : at + 1 + m ≡ at + suc m = omega arith in
+      rw (e, joined-split (at + 1) m n, next) (simp append-assoc)
+
   -- from 0 on, as a loop counts
   pub joined-next : (n : ℕ) → joined f 0 (n + 1) ≡ joined f 0 n ++ f n
   joined-next n = let e : 0 + n ≡ n = omega arith in rw (add-one n, joined-more 0 n, e)

@@ -1,16 +1,16 @@
 -- Records written into an output buffer one part after the other.
-use Prim.Native.Nat.{ℕ, suc, _+_, _-_, _*_, _≤_}
+use Prim.Native.Nat.{ℕ, suc, _+_, _-_, _*_, _<_, _≤_}
 use native.Mathlib.Omega.{arith}
 use native.Mathlib.Numerals.{add-one}
 use mathlib.Core.Path.{_≡_, refl, sym, ap, _∙_}
-use mathlib.Core.Bool.{Bool, not, _&&_}
+use mathlib.Core.Bool.{Bool, true, false}
 use mathlib.Core.List.{List, [], _∷_, _++_, flatMap, append-assoc, append-nil}
-use lib.ListN.{length, take, drop, set}
+use lib.ListN.{length, take, drop, set, length-append}
 use lib.Seq.{sets-eq}
 use Rattle.basics.specs.Lists.{tabulated}
 use Rattle.basics.specs.Verdict.{Result, result}
 use Rattle.basics.proofs.Filling.{Begun, begun-rest}
-use Rattle.basics.proofs.Lists.{joined-more, joined-next, tabulated-length}
+use Rattle.basics.proofs.Lists.{joined-more, joined-split, tabulated-length}
 use Rattle.sed1520.specs.Laws.{sent}
 use Rattle.sed1520.specs.Records.{recordBytes, recordsBytes}
 use Rattle.sed1520.specs.declared.registers.Chip.{Chip}
@@ -19,8 +19,8 @@ use Rattle.sed1520.proofs.Records.{bytes-append, bytes-length}
 use Rattle.frame.specs.Frame.{segments}
 use Rattle.repaint.specs.Sparing.{passesBefore, columnRecords, columnsRecords, chosenRecords, bothRecords, putFront}
 use Rattle.repaint.proofs.Counts.{both-length, both-few}
-use Rattle.repaint.proofs.ChosenColumns.{at-most-one, cycles-few, column-length, columns-length, chosen-length, chosen-few}
-use Rattle.repaint.specs.Repaint.{columnSegment, pictureByte, columnWrite, pageRecords, turn, repaintRecords}
+use Rattle.repaint.proofs.ChosenColumns.{at-most-one, cycles-few, columns-length, run-columns, chosen-length, chosen-few}
+use Rattle.repaint.specs.Repaint.{columnSegment, pictureByte, columnWrite, runRecords, pageRecords, turn, repaintRecords}
 
 -- four bytes written to the front
 pub four-written : (l : List ℕ) (a b c d : ℕ) → 4 ≤ length l → set (set (set (set l 0 a) 1 b) 2 c) 3 d ≡ a ∷ b ∷ c ∷ d ∷ drop 4 l
@@ -49,27 +49,52 @@ front-begun rs e =
 pub begun-front : (rs : List Record) {old : List ℕ} {at : ℕ} {now : List ℕ} → Begun old (recordsBytes rs) at now → result at now ≡ putFront rs old
 begun-front rs begun = let many = sym (begun .size) ∙ bytes-length rs in rw (begun .bytes, many)
 
--- a column takes two records at most
-pub column-few : (c : Chip) (chip : ℕ) (picture : List ℕ) (r : ℕ) (before here : Bool) (j : ℕ) {n : ℕ}
-    → n ≡ 4 * length (columnRecords c chip picture r before here j) → n ≤ 8
-column-few c chip picture r before here j many =
-    omega (arith, many, column-length c chip picture r before here j, at-most-one here, at-most-one (here && not before))
+-- how many records and bytes a run is
+run-length : (c : Chip) (chip : ℕ) (picture : List ℕ) (r j n : ℕ) → length (runRecords c chip picture r j n) ≡ 1 + n
+run-length c chip picture r j n = omega (arith, tabulated-length (columnWrite c chip picture r) j n)
 
--- the columns that pass a test, so far, and the next one
-module _ (c : Chip) (chip : ℕ) (picture : List ℕ) (r : ℕ) (test : ℕ → Bool) (j : ℕ) {old : List ℕ} {at : ℕ} {now : List ℕ}
-    (begun : Begun old (recordsBytes (columnsRecords c chip picture r test 0 j)) at now) where
-  pub begun-column : {before here : Bool} → before ≡ passesBefore test j → here ≡ test j
-      → {n : ℕ} {part : List ℕ} → result n part ≡ putFront (columnRecords c chip picture r before here j) (take (length now - at) (drop at now))
-      → Begun old (recordsBytes (columnsRecords c chip picture r test 0 (j + 1))) (at + n)
-      (take at now ++ (part ++ drop (length now - at) (drop at now)))
-  begun-column was is e =
+pub run-bytes : (c : Chip) (chip : ℕ) (picture : List ℕ) (r j n : ℕ) → length (recordsBytes (runRecords c chip picture r j n)) ≡ 4 + 4 * n
+run-bytes c chip picture r j n = bytes-length (runRecords c chip picture r j n) ∙ omega (arith, run-length c chip picture r j n)
+
+-- the columns that pass a test, so far, and the run that begins there
+module _ (c : Chip) (chip : ℕ) (picture : List ℕ) (r : ℕ) (test : ℕ → Bool) (j n : ℕ)
+    (before : passesBefore test j ≡ false) (passes : (i : ℕ) → j ≤ i → i < j + n → test i ≡ true) (some : 0 < n) where
+  run-added : columnsRecords c chip picture r test 0 (j + n) ≡ columnsRecords c chip picture r test 0 j ++ runRecords c chip picture r j n
+  run-added =
       let f : ℕ → List Record = λ i. columnRecords c chip picture r (passesBefore test i) (test i) i in
-      rw (joined-next f j) (begun-put (columnsRecords c chip picture r test 0 j) (f j) begun (rw (was, is) at e))
+      let here : 0 + j ≡ j = omega arith in
+      let next : n ≡ suc (n - 1) = omega arith in
+      joined-split f 0 j n
+      ∙ rw (here, next)
+      (ap (λ (rs : List Record). columnsRecords c chip picture r test 0 j ++ rs)
+      (run-columns c chip picture r test (n - 1) j before (λ i h b. passes i h (omega arith))))
 
-  pub columns-few : at ≤ 4 * (j + 1)
-  columns-few =
-      let all = columnsRecords c chip picture r test 0 j in
-      omega (arith, begun .size, bytes-length all, columns-length test c chip picture r j, cycles-few test j, at-most-one (passesBefore test j))
+
+  -- it has room in a page
+  pub run-fits : {old : List ℕ} {at : ℕ} {now : List ℕ} → Begun old (recordsBytes (columnsRecords c chip picture r test 0 j)) at now
+      → at + (4 + 4 * n) ≤ 4 * (j + n + 1)
+  run-fits begun =
+      let so-far = columnsRecords c chip picture r test 0 j in
+      let all = ap length run-added ∙ length-append so-far (runRecords c chip picture r j n) in
+      omega (
+        arith,
+        begun .size,
+        bytes-length so-far,
+        all,
+        run-length c chip picture r j n,
+        columns-length test c chip picture r (j + n),
+        cycles-few test (j + n),
+        at-most-one (passesBefore test (j + n)),
+      )
+
+  pub begun-run : {old : List ℕ} {at : ℕ} {now : List ℕ} → Begun old (recordsBytes (columnsRecords c chip picture r test 0 j)) at now
+      → {part : List ℕ} → part ≡ recordsBytes (runRecords c chip picture r j n) ++ drop (4 + 4 * n) (take (length now - at) (drop at now))
+      → Begun old (recordsBytes (columnsRecords c chip picture r test 0 (j + n))) (at + (4 + 4 * n))
+      (take at now ++ (part ++ drop (length now - at) (drop at now)))
+  begun-run begun e =
+      let run = runRecords c chip picture r j n in
+      rw (run-added, bytes-append (columnsRecords c chip picture r test 0 j) run)
+      (begun-rest begun (recordsBytes run) (run-bytes c chip picture r j n) e)
 
 -- a page takes 252 bytes at most
 pub chosen-bytes : (c : Chip) (chip : ℕ) (picture : List ℕ) (r : ℕ) (test : ℕ → Bool) {n : ℕ}
@@ -81,29 +106,27 @@ pub both-bytes : (c : Chip) (chip : ℕ) (ram picture : List ℕ) {n : ℕ} → 
 both-bytes c chip ram picture many = omega (arith, many, both-length c chip ram picture, both-few c chip ram picture)
 
 -- one write more goes to the end
-module _ (c : Chip) (chip : ℕ) (picture : List ℕ) (r : ℕ) where
+module _ (c : Chip) (chip : ℕ) (picture : List ℕ) (r from : ℕ) where
   abbrev pub written : ℕ → List ℕ
-  written j = recordsBytes (tabulated (columnWrite c chip picture r) 0 j)
+  written n = recordsBytes (tabulated (columnWrite c chip picture r) from n)
 
-  written-more : (j : ℕ) → written (j + 1) ≡ written j ++ recordBytes (columnWrite c chip picture r j)
+  written-more : (n : ℕ) → written (n + 1) ≡ written n ++ recordBytes (columnWrite c chip picture r (from + n))
   unfolding flatMap
-  written-more j =
-      let from-zero : 0 + j ≡ j = omega arith in
-      let more = joined-more (λ i. columnWrite c chip picture r i ∷ []) 0 j in
-      rw (add-one j, more, bytes-append, from-zero)
+  written-more n = rw (add-one n, joined-more (λ i. columnWrite c chip picture r i ∷ []) from n, bytes-append)
 
-  pub written-length : (j : ℕ) → length (written j) ≡ 4 * j
-  written-length j = bytes-length (tabulated (columnWrite c chip picture r) 0 j) ∙ rw (tabulated-length (columnWrite c chip picture r) 0 j)
+  pub written-length : (n : ℕ) → length (written n) ≡ 4 * n
+  written-length n =
+      bytes-length (tabulated (columnWrite c chip picture r) from n) ∙ rw (tabulated-length (columnWrite c chip picture r) from n)
 
   -- the writes so far, and the next one in a part lent from there on
-  pub begun-write : (j : ℕ) {old out : List ℕ} → Begun old (written j) (4 * j) out
-      → {n byte : ℕ} {part : List ℕ} → n ≡ columnSegment c j → byte ≡ pictureByte picture chip n r
-      → part ≡ recordBytes (sent 3 chip byte) ++ drop 4 (take (length out - 4 * j) (drop (4 * j) out))
-      → Begun old (written (j + 1)) (4 * (j + 1)) (take (4 * j) out ++ (part ++ drop (length out - 4 * j) (drop (4 * j) out)))
-  begun-write j begun is-segment is-byte e =
-      let next : 4 * (j + 1) ≡ 4 * j + 4 = omega arith in
+  pub begun-write : (n : ℕ) {old out : List ℕ} → Begun old (written n) (4 * n) out
+      → {segment byte : ℕ} {part : List ℕ} → segment ≡ columnSegment c (from + n) → byte ≡ pictureByte picture chip segment r
+      → part ≡ recordBytes (sent 3 chip byte) ++ drop 4 (take (length out - 4 * n) (drop (4 * n) out))
+      → Begun old (written (n + 1)) (4 * (n + 1)) (take (4 * n) out ++ (part ++ drop (length out - 4 * n) (drop (4 * n) out)))
+  begun-write n begun is-segment is-byte e =
+      let next : 4 * (n + 1) ≡ 4 * n + 4 = omega arith in
       let e′ = rw (is-byte, is-segment) at e in
-      rw (written-more j, next) (begun-rest begun (recordBytes (columnWrite c chip picture r j)) refl e′)
+      rw (written-more n, next) (begun-rest begun (recordBytes (columnWrite c chip picture r (from + n))) refl e′)
 
 -- the six parts in the order in which they are written
 abbrev pub pageBytes : List ℕ → Chip → ℕ → ℕ → List ℕ

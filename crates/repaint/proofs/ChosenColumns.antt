@@ -4,24 +4,23 @@ use Prim.Native.Nat.{ℕ, zero, suc, _+_, _<_, _≤_}
 use native.Mathlib.Omega.{arith}
 use native.Mathlib.Numerals.{add-one}
 use mathlib.Core.Path.{_≡_, refl, sym, ap, _∙_}
-use mathlib.Core.Bool.{Bool, true, false, not, _&&_, true≢false}
+use mathlib.Core.Bool.{Bool, true, false, not, _&&_, Bool·beq, true≢false, false≢true}
 use mathlib.Core.List.{List, [], _∷_, _++_}
 use mathlib.Core.Logic.{⊎-elim}
 use lib.Dec.{eqb}
 use lib.ListN.{length, length-append}
-use borrow.Author.Tests.{ne-eqb}
+use borrow.Author.Tests.{eqb-true, eqb-false, ne-eqb}
 use Rattle.basics.specs.Choice.{if}
 use Rattle.basics.specs.Counts.{sumBelow, countBelow}
 use Rattle.basics.specs.Lists.{joined, tabulated}
 use Rattle.basics.proofs.Counts.{sum-next, sum-zeros, sum-is-zero}
 use Rattle.basics.proofs.Lists.{joined-next}
 use Rattle.basics.proofs.Tests.{tested, when}
-use Rattle.sed1520.specs.Command.{first}
 use Rattle.sed1520.specs.declared.registers.Chip.{Chip}
 use Rattle.sed1520.specs.declared.bus.Record.{Record}
 use Rattle.frame.specs.Frame.{segments}
-use Rattle.repaint.specs.Repaint.{lowestColumn, pageSet, columnWrite, pageRecords}
-use Rattle.repaint.specs.Sparing.{passesBefore, begins, columnSet, columnRecords, columnsRecords, chosenRecords, chosenCycles}
+use Rattle.repaint.specs.Repaint.{columnWrite, runRecords, pageRecords}
+use Rattle.repaint.specs.Sparing.{passesBefore, begins, columnRecords, columnsRecords, chosenRecords, chosenCycles, nextColumn}
 
 pub at-most-one : (t : Bool) → if t 1 0 ≤ 1
 at-most-one t = when (λ (n : ℕ). n ≤ 1) t (λ _. omega arith) (λ _. omega arith)
@@ -102,6 +101,29 @@ module _ (test : ℕ → Bool) where
     unfolding chosenRecords
     none-chosen fails = rw (none-counted fails)
 
+-- columns that all pass, after one that does or as the beginning of a run; and columns that all do not
+module _ (c : Chip) (k : ℕ) (picture : List ℕ) (r : ℕ) (test : ℕ → Bool) where
+  preceded-columns : (n j : ℕ) → passesBefore test j ≡ true → ((i : ℕ) → j ≤ i → i < j + n → test i ≡ true)
+      → columnsRecords c k picture r test j n ≡ tabulated (columnWrite c k picture r) j n
+  unfolding joined
+  preceded-columns zero j before passes = refl
+  preceded-columns (suc n) j before passes =
+      let here = passes j (omega arith) (omega arith) in
+      rw (before, here, preceded-columns n (j + 1) (rw (add-one j) here) (λ i h b. passes i (omega arith) (omega arith)))
+
+  pub run-columns : (n j : ℕ) → passesBefore test j ≡ false → ((i : ℕ) → j ≤ i → i < j + suc n → test i ≡ true)
+      → columnsRecords c k picture r test j (suc n) ≡ runRecords c k picture r j (suc n)
+  unfolding joined
+  run-columns n j before passes =
+      let here = passes j (omega arith) (omega arith) in
+      rw (before, here, preceded-columns n (j + 1) (rw (add-one j) here) (λ i h b. passes i (omega arith) (omega arith)))
+
+  pub gap-columns : (n j : ℕ) → ((i : ℕ) → j ≤ i → i < j + n → test i ≡ false) → columnsRecords c k picture r test j n ≡ []
+  unfolding joined
+  gap-columns zero j fails = refl
+  gap-columns (suc n) j fails =
+      rw (fails j (omega arith) (omega arith), gap-columns n (j + 1) (λ i h b. fails i (omega arith) (omega arith)))
+
 -- every column passes
 abbrev pub every : ℕ → Bool
 every j = true
@@ -111,14 +133,59 @@ unfolding sumBelow
 every-counted zero = refl
 every-counted (suc n) = rw (every-counted n) (omega arith)
 
-module _ (c : Chip) (k : ℕ) (picture : List ℕ) (r : ℕ) where
-  all-written : (n j : ℕ) → columnsRecords c k picture r every (suc j) n ≡ tabulated (columnWrite c k picture r) (suc j) n
-  unfolding joined
-  all-written zero j = refl
-  all-written (suc n) j = rw (add-one (suc j), all-written n (suc j))
+pub all-chosen : (c : Chip) (k : ℕ) (picture : List ℕ) (r : ℕ) → chosenRecords c k picture r every ≡ pageRecords c k picture r
+unfolding chosenRecords pageRecords
+all-chosen c k picture r = rw (every-counted segments, run-columns c k picture r every 60 0 refl (λ i h b. refl))
 
-  pub all-chosen : chosenRecords c k picture r every ≡ pageRecords c k picture r
-  unfolding chosenRecords pageRecords joined
-  all-chosen =
-      let base : lowestColumn c + 0 ≡ lowestColumn c = omega arith in
-      rw (every-counted segments, all-written 60 0, base)
+-- the column looked for is this one, or one further on
+module _ (test : ℕ → Bool) (value : Bool) (j : ℕ) where
+  pub next-here : {n m : ℕ} → n ≡ suc m → Bool·beq (test j) value ≡ true → nextColumn test value j n ≡ j
+  unfolding nextColumn
+  next-here more found = rw (more, found)
+
+  pub next-later : {n m : ℕ} → n ≡ suc m → Bool·beq (test j) value ≡ false → nextColumn test value j n ≡ nextColumn test value (j + 1) m
+  unfolding nextColumn
+  next-later more other = rw (more, other)
+
+-- what it is
+pub record Next (test : ℕ → Bool) (value : Bool) (j n at : ℕ) : Type 0 where
+  pub from : j ≤ at
+  pub to : at ≤ j + n
+  pub before : (i : ℕ) → j ≤ i → i < at → test i ≡ not value
+  pub found : at < j + n → test at ≡ value
+
+next-column : (test : ℕ → Bool) (value : Bool) (n j : ℕ) → Next test value j n (nextColumn test value j n)
+unfolding nextColumn
+next-column test value zero j =
+    record { from = omega arith; to = omega arith; before = λ i h b. absurd (omega arith); found = λ h. absurd (omega arith) }
+next-column test value (suc n) j =
+    ⊎-elim
+    (λ t. rw t
+    (record { from = omega arith; to = omega arith; before = λ i h b. absurd (omega arith); found = λ h. same (test j) value t }))
+    (λ t. let rest = next-column test value n (j + 1) in
+    let from = rest .from in
+    let to = rest .to in
+    rw t
+    (record {
+      from = omega arith;
+      to = omega arith;
+      before = λ i h b.
+          ⊎-elim (λ u. rw (eqb-true i j u) (other (test j) value t)) (λ u. rest .before i (omega (arith, eqb-false i j u)) b) (tested (eqb i j));
+      found = λ h. rest .found (omega arith);
+    }))
+    (tested (Bool·beq (test j) value))
+  where
+    same : (a b : Bool) → Bool·beq a b ≡ true → a ≡ b
+    same true true e = refl
+    same false false e = refl
+    same true false e = absurd (false≢true e)
+    same false true e = absurd (false≢true e)
+
+    other : (a b : Bool) → Bool·beq a b ≡ false → a ≡ not b
+    other true true e = absurd (true≢false e)
+    other false false e = absurd (true≢false e)
+    other true false e = refl
+    other false true e = refl
+
+pub next-is : (test : ℕ → Bool) (value : Bool) (j n : ℕ) {at : ℕ} → at ≡ nextColumn test value j n → Next test value j n at
+next-is test value j n is = rw is (next-column test value n j)

@@ -10,6 +10,7 @@ pub mod Plan
 pub mod Pages
 pub mod Counts
 pub mod Bytes
+pub mod RunByRun
 pub mod RepaintCases
 pub mod SparingCases
 pub mod LongestRuns

@@ -18,9 +18,9 @@ use Rattle.basics.proofs.Tests.{tested}
 use Rattle.sed1520.specs.declared.registers.Chip.{Chip}
 use Rattle.sed1520.specs.declared.bus.Record.{Record}
 use Rattle.frame.specs.Frame.{segments}
-use Rattle.repaint.specs.Repaint.{columnWrite}
-use Rattle.repaint.specs.Sparing.{passesBefore, begins, columnSet, columnRecords, columnsRecords, chosenRecords}
-use Rattle.repaint.specs.SparingPromises.{Stretch, LongestRun, LongestRuns, runRecords, recordsByRuns, ByLongestRuns, EveryPageByRuns}
+use Rattle.repaint.specs.Repaint.{columnWrite, columnSet, runRecords}
+use Rattle.repaint.specs.Sparing.{passesBefore, begins, columnRecords, columnsRecords, chosenRecords}
+use Rattle.repaint.specs.SparingPromises.{Stretch, LongestRun, LongestRuns, recordsByRuns, ByLongestRuns, EveryPageByRuns}
 use Rattle.repaint.proofs.ChosenColumns.{none-counted, some-counted}
 
 -- whether a run is open, by how long it is so far
@@ -38,7 +38,7 @@ closed s (suc l) more = stretch s (suc l) ∷ more
 
 module _ (c : Chip) (chip : ℕ) (picture : List ℕ) (r : ℕ) (test : ℕ → Bool) (n : ℕ) where
   abbrev run : Stretch → List Record
-  run = runRecords c chip picture r
+  run s = runRecords c chip picture r (s .start) (s .size)
 
   abbrev columns : ℕ → ℕ → List Record
   columns = columnsRecords c chip picture r test
@@ -197,7 +197,7 @@ module _ (c : Chip) (chip : ℕ) (picture : List ℕ) (r : ℕ) (test : ℕ → 
 
 -- the page's records by its runs: no run where no column passes, and else the first column that passes is in one
 by-runs : (c : Chip) (chip : ℕ) (picture : List ℕ) (r : ℕ) (test : ℕ → Bool) (runs : List Stretch) → LongestRuns test segments 0 runs
-    → columnsRecords c chip picture r test 0 segments ≡ flatMap (runRecords c chip picture r) runs
+    → columnsRecords c chip picture r test 0 segments ≡ flatMap (λ i. runRecords c chip picture r (i .start) (i .size)) runs
     → chosenRecords c chip picture r test ≡ recordsByRuns c chip picture r runs
 unfolding chosenRecords
 by-runs c chip picture r test [] longest records = rw (none-counted test (λ j h. longest j (omega arith) h))

@@ -22,8 +22,8 @@ use Rattle.sed1520.specs.declared.commands.Opcode.the-variants.{Column}
 use Rattle.sed1520.proofs.Cells.{read-written, read-other}
 use Rattle.sed1520.proofs.CycleLaws.{cycle-laws}
 use Rattle.panel.proofs.WholePanel.{whole-fit}
-use Rattle.repaint.specs.Repaint.{hiddenPage, lowestColumn, columnSegment, pictureByte, columnWrite}
-use Rattle.repaint.specs.Sparing.{passesBefore, columnSet, columnRecords, columnsRecords}
+use Rattle.repaint.specs.Repaint.{hiddenPage, lowestColumn, columnSegment, pictureByte, columnWrite, columnSet}
+use Rattle.repaint.specs.Sparing.{passesBefore, columnRecords, columnsRecords}
 use Rattle.repaint.specs.TearFree.{BothReady}
 use Rattle.repaint.proofs.Sides.{Moved, taken, moved}
 use Rattle.repaint.proofs.Quiet.{shownPage, Quiet, ready-at, quiet-moved}

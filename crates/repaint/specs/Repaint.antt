@@ -18,13 +18,9 @@ use Rattle.sed1520.specs.declared.bus.Record.{Record}
 use Rattle.sed1520.specs.declared.commands.Opcode.the-variants.{StartLine, Page, Column}
 use Rattle.frame.specs.Frame.{segments, columns, framePlace}
 
--- how many bytes the data writes of one hidden page are: 244
-abbrev pub writesLength : ℕ
-writesLength = 4 * segments
-
--- how many bytes the records of one hidden page are, its page set and column set before its data writes: 252
+-- how many bytes the records of one hidden page are, a page set, a column set and 61 data writes: 252
 abbrev pub pageLength : ℕ
-pageLength = 8 + writesLength
+pageLength = 8 + 4 * segments
 
 -- how many records come before the first start line turns, 63 for each of four hidden pages: 252
 abbrev pub quietCycles : ℕ
@@ -62,10 +58,17 @@ columnWrite c chip picture r j = sent 3 chip (pictureByte picture chip (columnSe
 abbrev pub pageSet : Chip → ℕ → ℕ → Record
 pageSet c chip r = sent 2 chip (first Page + hiddenPage c r)
 
--- the records that write band r of the picture to its hidden page: page set, column set, 61 data writes
+-- the record that sets the j-th column, counted from the lowest
+abbrev pub columnSet : Chip → ℕ → ℕ → Record
+columnSet c chip j = sent 2 chip (first Column + (lowestColumn c + j))
+
+-- the records of a run of n columns, from the j-th on: one column set, n data writes
+abbrev pub runRecords : Chip → ℕ → List ℕ → ℕ → ℕ → ℕ → List Record
+runRecords c chip picture r j n = columnSet c chip j ∷ tabulated (columnWrite c chip picture r) j n
+
+-- the records that write band r of the picture to its hidden page: page set, then its 61 columns as one run
 unfoldable pub pageRecords : Chip → ℕ → List ℕ → ℕ → List Record
-pageRecords c chip picture r =
-    pageSet c chip r ∷ sent 2 chip (first Column + lowestColumn c) ∷ tabulated (columnWrite c chip picture r) 0 segments
+pageRecords c chip picture r = pageSet c chip r ∷ runRecords c chip picture r 0 segments
 
 -- a chip's start line turned from 0 to 16 or from 16 to 0
 abbrev pub turnedLine : Chip → ℕ

@@ -1,7 +1,7 @@
 -- The sparing repaint (request C-17): the records that bring a 122 by 16 picture to the panel and write, of the hidden pages, only the bytes that
 -- differ from it.
 use Prim.Native.Nat.{ℕ, zero, suc, _+_, _*_}
-use mathlib.Core.Bool.{Bool, false, not, _&&_, _||_}
+use mathlib.Core.Bool.{Bool, false, not, _&&_, _||_, Bool·beq}
 use mathlib.Core.List.{List, [], _∷_, _++_}
 use lib.Dec.{eqb}
 use lib.ListN.{length, drop}
@@ -11,16 +11,13 @@ use Rattle.basics.specs.Lists.{joined}
 use Rattle.basics.specs.Table.{Cause, cause, unlessRefused}
 use Rattle.basics.specs.Verdict.{verdict, Result, result}
 use Rattle.basics.specs.declared.verdict.Verdict.{Verdict}
-use Rattle.sed1520.specs.Command.{first}
-use Rattle.sed1520.specs.Laws.{sent}
 use Rattle.sed1520.specs.Memory.{byteAt}
 use Rattle.sed1520.specs.Records.{recordsBytes}
 use Rattle.sed1520.specs.declared.registers.Chip.{Chip}
 use Rattle.sed1520.specs.declared.bus.Record.{Record}
-use Rattle.sed1520.specs.declared.commands.Opcode.the-variants.{Column}
 use Rattle.panel.specs.Panel.{imageLength, Panel, ramAt}
 use Rattle.frame.specs.Frame.{segments}
-use Rattle.repaint.specs.Repaint.{hiddenPage, lowestColumn, columnSegment, pictureByte, pageSet, columnWrite, lineTurns, repaintSizesWrong, readyTable}
+use Rattle.repaint.specs.Repaint.{hiddenPage, lowestColumn, columnSegment, pictureByte, pageSet, columnWrite, columnSet, lineTurns, repaintSizesWrong, readyTable}
 
 -- whether the byte of the j-th column, counted from the lowest, of the hidden page for band r differs from the picture's
 abbrev pub differs : Chip → ℕ → List ℕ → List ℕ → ℕ → ℕ → Bool
@@ -35,10 +32,6 @@ passesBefore test (suc j) = test j
 -- a run of columns that pass a test begins at one that passes with none before it that does
 abbrev pub begins : (ℕ → Bool) → ℕ → Bool
 begins test j = test j && not (passesBefore test j)
-
--- the record that sets the j-th column, counted from the lowest
-abbrev pub columnSet : Chip → ℕ → ℕ → Record
-columnSet c chip j = sent 2 chip (first Column + (lowestColumn c + j))
 
 -- the records of the j-th column, by whether the column before it and the column itself are written: a column set where a run begins, the data write
 abbrev pub columnRecords : Chip → ℕ → List ℕ → ℕ → Bool → Bool → ℕ → List Record
@@ -82,6 +75,11 @@ sparingQuiet p picture = bothCycles (p .left) 0 (ramAt p 0) picture + bothCycles
 -- how many cycles a sparing repaint has, by that rule
 abbrev pub sparingCycles : Panel → List ℕ → ℕ
 sparingCycles p picture = sparingQuiet p picture + 2
+
+-- the first of n columns from the j-th on at which a test gives a value, or the one past them
+unfoldable pub nextColumn : (ℕ → Bool) → Bool → ℕ → ℕ → ℕ
+nextColumn test value j zero = j
+nextColumn test value j (suc n) = if (Bool·beq (test j) value) j (nextColumn test value (j + 1) n)
 
 -- records put to the front of a buffer: how many bytes they are, and the buffer with the rest as it was
 abbrev pub putFront : List Record → List ℕ → Result ℕ (List ℕ)

@@ -5,7 +5,6 @@ use mathlib.Core.Bool.{Bool, true, false}
 use mathlib.Core.List.{List, [], _∷_, _++_, flatMap}
 use lib.ListN.{length, drop}
 use Rattle.basics.specs.Counts.{countBelow}
-use Rattle.basics.specs.Lists.{tabulated}
 use Rattle.basics.specs.Verdict.{verdict, result}
 use Rattle.sed1520.specs.Memory.{byteAt}
 use Rattle.sed1520.specs.Records.{recordsBytes}
@@ -13,8 +12,8 @@ use Rattle.sed1520.specs.declared.registers.Chip.{Chip}
 use Rattle.sed1520.specs.declared.bus.Record.{Record}
 use Rattle.panel.specs.Panel.{Panel, chipAt, ramAt}
 use Rattle.frame.specs.Frame.{segments, ramColumn}
-use Rattle.repaint.specs.Repaint.{hiddenPage, pictureByte, pageSet, columnWrite, lineTurns, repaintCycles, repaintSizesWrong, repaintOf}
-use Rattle.repaint.specs.Sparing.{begins, columnSet, chosenRecords, sparingRecords, sparingCycles, sparingOf}
+use Rattle.repaint.specs.Repaint.{hiddenPage, pictureByte, pageSet, runRecords, lineTurns, repaintCycles, repaintSizesWrong, repaintOf}
+use Rattle.repaint.specs.Sparing.{begins, chosenRecords, sparingRecords, sparingCycles, sparingOf}
 use Rattle.repaint.specs.TearFree.{BothReady, shown, Request, asked, sentSoFar}
 
 -- the count by pages and runs is how many records there are, and never over 254
@@ -45,14 +44,10 @@ LongestRuns test n at [] = (i : ℕ) → at ≤ i → i < n → test i ≡ false
 LongestRuns test n at (s ∷ more) =
     (at ≤ s .start) × (((i : ℕ) → at ≤ i → i < s .start → test i ≡ false) × (LongestRun test n s × LongestRuns test n (s .start + s .size) more))
 
--- one column set, and the run's writes
-abbrev pub runRecords : Chip → ℕ → List ℕ → ℕ → Stretch → List Record
-runRecords c chip picture r s = columnSet c chip (s .start) ∷ tabulated (columnWrite c chip picture r) (s .start) (s .size)
-
 -- request C-17's rule for a page, by its runs: passed over where there is none, else set page, then each run
 abbrev pub recordsByRuns : Chip → ℕ → List ℕ → ℕ → List Stretch → List Record
 recordsByRuns c chip picture r [] = []
-recordsByRuns c chip picture r (s ∷ more) = pageSet c chip r ∷ flatMap (runRecords c chip picture r) (s ∷ more)
+recordsByRuns c chip picture r (s ∷ more) = pageSet c chip r ∷ flatMap (λ i. runRecords c chip picture r (i .start) (i .size)) (s ∷ more)
 
 -- the records of a page, defined column by column, are those of that rule: there are stretches that are the page's longest runs and give them
 pub record ByLongestRuns (c : Chip) (chip : ℕ) (picture : List ℕ) (r : ℕ) (test : ℕ → Bool) : Type 0 where

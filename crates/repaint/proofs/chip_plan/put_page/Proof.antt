@@ -1,53 +1,29 @@
--- `repaint::chip_plan::put_page` meets its contract, record by record.
-use native.Mathlib.Omega.{arith}
+-- `repaint::chip_plan::put_page` meets its contract: the page is set, then comes one run.
 use mathlib.Core.Path.{refl, _∙_}
 use mathlib.Core.List.{[], _∷_, flatMap}
-use Rattle.basics.proofs.Filling.{begun-first, begun-rest}
-use Rattle.frame.specs.Frame.{segments}
-use Rattle.repaint.specs.Repaint.{pageRecords}
-use Rattle.repaint.proofs.Bytes.{written, written-length}
-use Rattle.repaint.proofs.Small.{page-small}
 use borrow.Author.Needs.{needs}
+use Rattle.basics.proofs.Filling.{begun-first, begun-rest}
+use Rattle.sed1520.specs.Records.{recordBytes, recordsBytes}
+use Rattle.frame.specs.Frame.{segments}
+use Rattle.repaint.specs.Repaint.{pageSet, runRecords, pageRecords}
+use Rattle.repaint.proofs.Bytes.{run-bytes}
 use Rattle.repaint.proofs.chip_plan.put_page.Statement.{statement}
 use Rattle.repaint.proofs.chip_plan.put_page.Tie as tie
-
-add-put-record : tie.Need-add-put-record
-add-put-record c =
-    let start = c .before .before .before .before in
-    let page = page-small (start .args .chip) (start .args .band) (start .pre .1 .0) in
-    omega (arith, c .before .first .ensures, c .hidden-page .ensures, page)
 
 returns : tie.Need-returns
 unfolding flatMap pageRecords
 returns c =
-    let bytes = c .before .before in
-    let column = bytes .before .before .before .before in
-    let page = column .before .before .before .before .before .before in
-    let lowest = column .before .before in
-    let hidden = page .before .before in
-    let at = hidden .before .before .before .before .args in
-    let all = written (at .chip) (at .which) (at .picture .now) (at .band) segments in
-    let size = written-length (at .chip) (at .which) (at .picture .now) (at .band) segments in
-    let one = begun-first (at .output .now) (_ ∷ _ ∷ _ ∷ _ ∷ []) refl (page .put-record .ensures) in
-    let two = begun-rest one (_ ∷ _ ∷ _ ∷ _ ∷ []) refl (column .put-record2 .ensures) in
-    let three = begun-rest two all size (bytes .put-writes .ensures) in
-    three .bytes
-    ∙ rw (hidden .before .first .ensures, hidden .hidden-page .ensures, lowest .before .first2 .ensures, lowest .lowest-column .ensures)
+    let run = c .before .before in
+    let page = run .before .before .before .before in
+    let at = page .before .before .before .before .args in
+    let one = begun-first (at .output .now) (recordBytes (pageSet (at .chip) (at .which) (at .band))) refl (page .put-page-set .ensures) in
+    let all = recordsBytes (runRecords (at .chip) (at .which) (at .picture .now) (at .band) 0 segments) in
+    begun-rest one all (run-bytes (at .chip) (at .which) (at .picture .now) (at .band) 0 segments) (run .put-run .ensures) .bytes
 
 pub put-page-spec : {M : Type 1} → statement M
 put-page-spec =
     tie.close
     (tie.spec
-    (λ c κs. search needs)
-    (λ c κs. search needs)
-    add-put-record
-    (λ c κs. search needs)
-    (λ c κs. search needs)
-    (λ c κs. search needs)
-    (λ c. search needs)
-    (λ c. search needs)
-    (λ c. search needs)
-    (λ c. search needs)
     (λ c κs. search needs)
     (λ c. search needs)
     (λ c. search needs)

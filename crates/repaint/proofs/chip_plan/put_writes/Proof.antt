@@ -7,18 +7,17 @@ use borrow.Author.Needs.{needs}
 use mathlib.Core.List.{flatMap}
 use Rattle.basics.specs.Lists.{joined}
 use Rattle.basics.proofs.Filling.{Begun, begun-none}
-use Rattle.frame.specs.Frame.{segments}
 use Rattle.repaint.proofs.Bytes.{written, begun-write}
 use Rattle.repaint.proofs.Small.{segment-small}
 use Rattle.repaint.proofs.chip_plan.put_writes.Statement.{statement}
 use Rattle.repaint.proofs.chip_plan.put_writes.Tie as tie
 
 abbrev Inv-loop : tie.InvT-loop
-Inv-loop chip which picture band output₀ j₀ output j =
-    Begun output₀ (written chip which picture band j) (4 * j) output × ((j ≤ segments) × (length output ≡ length output₀))
+Inv-loop chip which picture band from n output₀ i₀ output i =
+    Begun output₀ (written chip which picture band from i) (4 * i) output × ((i ≤ n) × (length output ≡ length output₀))
 
 abbrev μ-loop : tie.MeasureT-loop
-μ-loop chip which picture band output₀ j₀ output j = segments - j
+μ-loop chip which picture band from n output₀ i₀ output i = n - i
 
 loop-holds : tie.Need-loop-holds Inv-loop μ-loop
 unfolding joined flatMap
@@ -27,7 +26,7 @@ loop-holds c = (begun-none _, (omega arith, refl))
 picture-byte-requires : tie.Need-picture-byte-requires Inv-loop μ-loop
 picture-byte-requires c κs =
     let start = c .before .before .before .before .before in
-    (start .pre .0, (rw (c .column-segment .ensures) (segment-small (start .args .chip) _ (omega arith)), start .pre .1 .0))
+    (start .pre .0, (rw (c .column-segment .ensures) (segment-small (start .args .chip) _ (omega (arith, start .pre .1 .1 .0))), start .pre .1 .0))
 
 put-record-requires : tie.Need-put-record-requires Inv-loop μ-loop
 put-record-requires c κs = simp (length-take, length-drop) (omega arith)
@@ -38,9 +37,9 @@ loop-again c =
     let byte = put .before .before in
     let segment = byte .before in
     let loop = segment .before .before in
-    let start = loop .before .before .before in
-    let at = start .args in (
-      begun-write (at .chip) (at .which) (at .picture .now) (at .band) (loop .loop .j) (loop .loop .inv .0)
+    let at = loop .before .before .before .args in
+    (
+      begun-write (at .chip) (at .which) (at .picture .now) (at .band) (at .from) (loop .loop .i) (loop .loop .inv .0)
           (segment .column-segment .ensures)
           (byte .picture-byte .ensures)
           (put .put-record .ensures),
@@ -52,7 +51,7 @@ same-length c = c .before .loop .inv .1 .1
 
 returns : tie.Need-returns Inv-loop μ-loop
 returns c =
-    let e : c .before .loop .j ≡ segments = omega arith in
+    let e : c .before .loop .i ≡ c .before .before .before .before .args .n = omega arith in
     rw e at (c .before .loop .inv .0 .bytes)
 
 pub put-writes-spec : {M : Type 1} → statement M
@@ -62,6 +61,7 @@ put-writes-spec =
     Inv-loop
     μ-loop
     loop-holds
+    (λ c. omega (arith, c .before .before .before .before .pre .1 .1 .0))
     (λ c κs. omega arith)
     picture-byte-requires
     (λ c. omega arith)

@@ -1,63 +1,62 @@
 -- `repaint::sparing_page::put_changed` meets its contract: nothing, or the page and then the columns.
 use Prim.Native.Nat.{ℕ}
 use native.Mathlib.Omega.{arith}
-use mathlib.Core.Path.{refl, sym, ap, _∙_}
+use mathlib.Core.Path.{refl, ap}
+use mathlib.Core.Bool.{Bool, true}
 use mathlib.Core.List.{List, [], _∷_, flatMap}
-use lib.Dec.{eqb}
 use borrow.Author.Needs.{needs}
-use borrow.Author.Tests.{not-true, not-false}
-use Rattle.basics.specs.Counts.{countBelow}
 use Rattle.basics.specs.Verdict.{Result}
 use Rattle.basics.proofs.Filling.{begun-first}
 use Rattle.sed1520.specs.Records.{recordsBytes}
 use Rattle.frame.specs.Frame.{segments}
 use Rattle.repaint.specs.Repaint.{pageSet}
 use Rattle.repaint.specs.Sparing.{differs, columnsRecords, chosenRecords}
-use Rattle.repaint.proofs.ChosenColumns.{at-most-one, cycles-few, columns-length}
 use Rattle.repaint.proofs.Bytes.{begun-put, begun-front}
-use Rattle.repaint.proofs.Small.{page-small}
+use Rattle.repaint.proofs.ChosenColumns.{none-counted, some-counted, Next, next-is, at-most-one, cycles-few, columns-length}
 use Rattle.repaint.proofs.sparing_page.put_changed.Statement.{statement}
 use Rattle.repaint.proofs.sparing_page.put_changed.Tie as tie
 
+-- the columns that differ, and what is known of the first
+abbrev start : tie.After-next-column → tie.Start
+start c = c .before .before .before .before
+
+abbrev test : tie.Start → ℕ → Bool
+test s = let at = s .args in differs (at .chip) (at .which) (at .ram .now) (at .picture .now) (at .band)
+
+first : (c : tie.After-next-column) → Next (test (start c)) true 0 segments (c .next-column .result)
+first c = next-is (test (start c)) true 0 segments (c .next-column .ensures)
+
 returns : tie.Need-returns
 unfolding flatMap chosenRecords
-returns c =
-    let differ = c .before in
-    let at = differ .before .before .before .before .args in
-    let test = differs (at .chip) (at .which) (at .ram .now) (at .picture .now) (at .band) in
-    rw (not-false (eqb (countBelow test segments) 0) (sym (differ .page-differs .ensures) ∙ not-true (differ .page-differs .result) (c .if1 .taken)))
-
-add-put-record : tie.Need-add-put-record
-add-put-record c =
-    let start = c .before .before .before .before .before .before .before in
-    let page = page-small (start .args .chip) (start .args .band) (start .pre .1 .1 .0) in
-    omega (arith, c .before .first .ensures, c .hidden-page .ensures, page)
+returns c = let next = c .before in rw (none-counted (test (start next)) (λ j h. first next .before j (omega arith) (omega arith)))
 
 add-result : tie.Need-add-result
 add-result c =
     let put = c .before .before in
-    let start = put .before .before .before .before .before .before .before .before .before .before .before .before .before in
-    let at = start .args in
-    let test = differs (at .chip) (at .which) (at .ram .now) (at .picture .now) (at .band) in
+    let s = start (put .before .before .before .before .before .before .before) in
+    let at = s .args in
     let many = ap (λ (o : Result ℕ (List ℕ)). o .answer) (put .put-columns .ensures) in
-    omega (arith, many, columns-length test (at .chip) (at .which) (at .picture .now) (at .band) segments, cycles-few test segments, at-most-one (test 60))
+    omega (
+      arith,
+      many,
+      columns-length (test s) (at .chip) (at .which) (at .picture .now) (at .band) segments,
+      cycles-few (test s) segments,
+      at-most-one (test s 60),
+    )
 
 returns-2 : tie.Need-returns-2
 unfolding flatMap chosenRecords
 returns-2 c =
     let columns = c .before .before in
     let page = columns .before .before .before .before in
-    let hidden = page .before .before in
-    let first = hidden .before in
-    let differ = first .before .before in
-    let at = differ .before .before .before .before .args in
-    let test = differs (at .chip) (at .which) (at .ram .now) (at .picture .now) (at .band) in
+    let next = page .before .before .before in
+    let s = start next in
+    let at = s .args in
     let set = pageSet (at .chip) (at .which) (at .band) in
-    let rest = columnsRecords (at .chip) (at .which) (at .picture .now) (at .band) test 0 segments in
-    let some = not-true (eqb (countBelow test segments) 0) (sym (differ .page-differs .ensures) ∙ not-false (differ .page-differs .result) (first .before .if1 .left)) in
-    let one = begun-first (at .output .now) (recordsBytes (set ∷ [])) refl
-    (rw (first .first .ensures, hidden .hidden-page .ensures) at (page .put-record .ensures)) in
-    rw some (begun-front (set ∷ rest) (begun-put (set ∷ []) rest one (columns .put-columns .ensures)))
+    let rest = columnsRecords (at .chip) (at .which) (at .picture .now) (at .band) (test s) 0 segments in
+    let one = begun-first (at .output .now) (recordsBytes (set ∷ [])) refl (page .put-page-set .ensures) in
+    rw (some-counted (test s) (next .next-column .result) (omega arith) (first next .found (omega arith)))
+    (begun-front (set ∷ rest) (begun-put (set ∷ []) rest one (columns .put-columns .ensures)))
 
 pub put-changed-spec : {M : Type 1} → statement M
 put-changed-spec =
@@ -65,9 +64,6 @@ put-changed-spec =
     (tie.spec
     (λ c κs. search needs)
     returns
-    (λ c κs. search needs)
-    (λ c κs. search needs)
-    add-put-record
     (λ c κs. search needs)
     (λ c. search needs)
     (λ c. search needs)
