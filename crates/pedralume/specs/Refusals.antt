@@ -1,5 +1,5 @@
--- Numbers 1 and 2 of the calls that fill a buffer, by document 01's table and the chips' bytes as they lie: the buffer stays as it came. And what
--- these calls come to where neither is given.
+-- Numbers 1 and 2 of the calls that fill a buffer, by document 01's table and the chips' bytes as they lie: the buffer stays as it came. It also
+-- says what these calls give where neither number is given.
 use Prim.Native.Nat.{ℕ}
 use mathlib.Core.Path.{_≡_}
 use mathlib.Core.Bool.{Bool, false, not}
@@ -23,7 +23,7 @@ bytesTable wrong chips =
     ∷ leftThenRight 2 (not (bytesPass (take chipLength chips))) (not (bytesPass (drop chipLength chips))) []
 
 -- the calls of the frame, of both repaints and of the list of changes give numbers 1 and 2 by their table, and the buffer stays as it came; where no
--- line of it holds, they come to what their callees come to on the chips that the bytes stand for (FrameNumbers, RepaintNumbers, SparingNumbers,
+-- line of it holds, they give what their callees give on the chips that the bytes stand for (FrameNumbers, RepaintNumbers, SparingNumbers,
 -- ChangesNumbers)
 pub record CallsRefuse : Type 0 where
   pub frame : (chips ram buffer : List ℕ) (n at : ℕ) → First (bytesTable (frameSizesWrong (length ram) (length buffer)) chips) n at

@@ -17,10 +17,10 @@ use Rattle.sed1520.specs.declared.registers.Chip.{Chip}
 use Rattle.sed1520.specs.declared.bus.Record.{Record}
 use Rattle.sed1520.proofs.Records.{bytes-append, bytes-length}
 use Rattle.frame.specs.Frame.{segments}
-use Rattle.repaint.specs.Sparing.{passesBefore, columnRecords, columnsRecords, chosenRecords, bothRecords, putFront}
+use Rattle.repaint.specs.Sparing.{passesBefore, columnRecords, chosenColumns, chosenPage, chipRecords, putFront}
 use Rattle.repaint.proofs.Counts.{both-length, both-few}
-use Rattle.repaint.proofs.ChosenColumns.{at-most-one, cycles-few, columns-length, run-columns, chosen-length, chosen-few}
-use Rattle.repaint.specs.Repaint.{columnSegment, pictureByte, columnWrite, runRecords, pageRecords, turn, repaintRecords}
+use Rattle.repaint.proofs.ChosenColumns.{cycles-few, columns-length, run-columns, chosen-length, chosen-few}
+use Rattle.repaint.specs.Repaint.{columnSegment, pictureByte, columnWrite, columnSet, runRecords, pageRecords, turn, repaintRecords}
 
 -- four bytes written to the front
 pub four-written : (l : List ℕ) (a b c d : ℕ) → 4 ≤ length l → set (set (set (set l 0 a) 1 b) 2 c) 3 d ≡ a ∷ b ∷ c ∷ d ∷ drop 4 l
@@ -49,62 +49,6 @@ front-begun rs e =
 pub begun-front : (rs : List Record) {old : List ℕ} {at : ℕ} {now : List ℕ} → Begun old (recordsBytes rs) at now → result at now ≡ putFront rs old
 begun-front rs begun = let many = sym (begun .size) ∙ bytes-length rs in rw (begun .bytes, many)
 
--- how many records and bytes a run is
-run-length : (c : Chip) (chip : ℕ) (picture : List ℕ) (r j n : ℕ) → length (runRecords c chip picture r j n) ≡ 1 + n
-run-length c chip picture r j n = omega (arith, tabulated-length (columnWrite c chip picture r) j n)
-
-pub run-bytes : (c : Chip) (chip : ℕ) (picture : List ℕ) (r j n : ℕ) → length (recordsBytes (runRecords c chip picture r j n)) ≡ 4 + 4 * n
-run-bytes c chip picture r j n = bytes-length (runRecords c chip picture r j n) ∙ omega (arith, run-length c chip picture r j n)
-
--- the columns that pass a test, so far, and the run that begins there
-module _ (c : Chip) (chip : ℕ) (picture : List ℕ) (r : ℕ) (test : ℕ → Bool) (j n : ℕ)
-    (before : passesBefore test j ≡ false) (passes : (i : ℕ) → j ≤ i → i < j + n → test i ≡ true) (some : 0 < n) where
-  run-added : columnsRecords c chip picture r test 0 (j + n) ≡ columnsRecords c chip picture r test 0 j ++ runRecords c chip picture r j n
-  run-added =
-      let f : ℕ → List Record = λ i. columnRecords c chip picture r (passesBefore test i) (test i) i in
-      let here : 0 + j ≡ j = omega arith in
-      let next : n ≡ suc (n - 1) = omega arith in
-      joined-split f 0 j n
-      ∙ rw (here, next)
-      (ap (λ (rs : List Record). columnsRecords c chip picture r test 0 j ++ rs)
-      (run-columns c chip picture r test (n - 1) j before (λ i h b. passes i h (omega arith))))
-
-
-  -- it has room in a page
-  pub run-fits : {old : List ℕ} {at : ℕ} {now : List ℕ} → Begun old (recordsBytes (columnsRecords c chip picture r test 0 j)) at now
-      → at + (4 + 4 * n) ≤ 4 * (j + n + 1)
-  run-fits begun =
-      let so-far = columnsRecords c chip picture r test 0 j in
-      let all = ap length run-added ∙ length-append so-far (runRecords c chip picture r j n) in
-      omega (
-        arith,
-        begun .size,
-        bytes-length so-far,
-        all,
-        run-length c chip picture r j n,
-        columns-length test c chip picture r (j + n),
-        cycles-few test (j + n),
-        at-most-one (passesBefore test (j + n)),
-      )
-
-  pub begun-run : {old : List ℕ} {at : ℕ} {now : List ℕ} → Begun old (recordsBytes (columnsRecords c chip picture r test 0 j)) at now
-      → {part : List ℕ} → part ≡ recordsBytes (runRecords c chip picture r j n) ++ drop (4 + 4 * n) (take (length now - at) (drop at now))
-      → Begun old (recordsBytes (columnsRecords c chip picture r test 0 (j + n))) (at + (4 + 4 * n))
-      (take at now ++ (part ++ drop (length now - at) (drop at now)))
-  begun-run begun e =
-      let run = runRecords c chip picture r j n in
-      rw (run-added, bytes-append (columnsRecords c chip picture r test 0 j) run)
-      (begun-rest begun (recordsBytes run) (run-bytes c chip picture r j n) e)
-
--- a page takes 252 bytes at most
-pub chosen-bytes : (c : Chip) (chip : ℕ) (picture : List ℕ) (r : ℕ) (test : ℕ → Bool) {n : ℕ}
-    → n ≡ 4 * length (chosenRecords c chip picture r test) → n ≤ 252
-chosen-bytes c chip picture r test many = omega (arith, many, chosen-length test c chip picture r, chosen-few test)
-
--- both pages of a chip take 504 bytes at most
-pub both-bytes : (c : Chip) (chip : ℕ) (ram picture : List ℕ) {n : ℕ} → n ≡ 4 * length (bothRecords c chip ram picture) → n ≤ 504
-both-bytes c chip ram picture many = omega (arith, many, both-length c chip ram picture, both-few c chip ram picture)
-
 -- one write more goes to the end
 module _ (c : Chip) (chip : ℕ) (picture : List ℕ) (r from : ℕ) where
   abbrev pub written : ℕ → List ℕ
@@ -127,6 +71,46 @@ module _ (c : Chip) (chip : ℕ) (picture : List ℕ) (r from : ℕ) where
       let next : 4 * (n + 1) ≡ 4 * n + 4 = omega arith in
       let e′ = rw (is-byte, is-segment) at e in
       rw (written-more n, next) (begun-rest begun (recordBytes (columnWrite c chip picture r (from + n))) refl e′)
+
+-- the columns that pass a test, so far, and the run that begins there
+module _ (c : Chip) (chip : ℕ) (picture : List ℕ) (r : ℕ) (test : ℕ → Bool) (j : ℕ) (before : passesBefore test j ≡ false) where
+  -- four bytes for each column at most
+  pub columns-fit : {old : List ℕ} {at : ℕ} {now : List ℕ} → Begun old (recordsBytes (chosenColumns c chip picture r test 0 j)) at now → at ≤ 4 * j
+  columns-fit begun =
+      let few = rw before at (cycles-few test j) in
+      let so-far = chosenColumns c chip picture r test 0 j in
+      omega (arith, begun .size, bytes-length so-far, columns-length test c chip picture r j, few)
+
+  module _ (n : ℕ) (passes : (i : ℕ) → j ≤ i → i < j + n → test i ≡ true) (some : 0 < n) where
+    run-added : chosenColumns c chip picture r test 0 (j + n) ≡ chosenColumns c chip picture r test 0 j ++ runRecords c chip picture r j n
+    run-added =
+        let here : 0 + j ≡ j = omega arith in
+        let next : n ≡ suc (n - 1) = omega arith in
+        joined-split (columnRecords c chip picture r test) 0 j n
+        ∙ rw (here, next)
+        (ap (λ (rs : List Record). chosenColumns c chip picture r test 0 j ++ rs)
+        (run-columns c chip picture r test (n - 1) j before (λ i h b. passes i h (omega arith))))
+
+    -- the column is set, and then its writes come
+    pub begun-run : {old : List ℕ} {at : ℕ} {now : List ℕ}
+        → Begun old (recordsBytes (chosenColumns c chip picture r test 0 j ++ (columnSet c chip j ∷ []))) at now
+        → {part : List ℕ} → part ≡ written c chip picture r j n ++ drop (4 * n) (take (length now - at) (drop at now))
+        → Begun old (recordsBytes (chosenColumns c chip picture r test 0 (j + n))) (at + 4 * n)
+        (take at now ++ (part ++ drop (length now - at) (drop at now)))
+    begun-run begun e =
+        let set = chosenColumns c chip picture r test 0 j ++ (columnSet c chip j ∷ []) in
+        let writes = tabulated (columnWrite c chip picture r) j n in
+        let all = run-added ∙ sym (append-assoc (chosenColumns c chip picture r test 0 j) (columnSet c chip j ∷ []) writes) in
+        rw (all, bytes-append set writes) (begun-rest begun (recordsBytes writes) (written-length c chip picture r j n) e)
+
+-- a page takes 252 bytes at most
+pub chosen-bytes : (c : Chip) (chip : ℕ) (picture : List ℕ) (r : ℕ) (test : ℕ → Bool) {n : ℕ}
+    → n ≡ 4 * length (chosenPage c chip picture r test) → n ≤ 252
+chosen-bytes c chip picture r test many = omega (arith, many, chosen-length test c chip picture r, chosen-few test)
+
+-- both pages of a chip take 504 bytes at most
+pub both-bytes : (c : Chip) (chip : ℕ) (ram picture : List ℕ) {n : ℕ} → n ≡ 4 * length (chipRecords c chip ram picture) → n ≤ 504
+both-bytes c chip ram picture many = omega (arith, many, both-length c chip ram picture, both-few c chip ram picture)
 
 -- the six parts in the order in which they are written
 abbrev pub pageBytes : List ℕ → Chip → ℕ → ℕ → List ℕ

@@ -19,8 +19,8 @@ use Rattle.basics.proofs.Tests.{tested, when}
 use Rattle.sed1520.specs.declared.registers.Chip.{Chip}
 use Rattle.sed1520.specs.declared.bus.Record.{Record}
 use Rattle.frame.specs.Frame.{segments}
-use Rattle.repaint.specs.Repaint.{columnWrite, runRecords, pageRecords}
-use Rattle.repaint.specs.Sparing.{passesBefore, begins, columnRecords, columnsRecords, chosenRecords, chosenCycles, nextColumn}
+use Rattle.repaint.specs.Repaint.{columnWrite, columnSet, runRecords, pageRecords}
+use Rattle.repaint.specs.Sparing.{passesBefore, begins, columnRecords, chosenColumns, chosenPage, chosenCycles, nextColumn}
 
 pub at-most-one : (t : Bool) → if t 1 0 ≤ 1
 at-most-one t = when (λ (n : ℕ). n ≤ 1) t (λ _. omega arith) (λ _. omega arith)
@@ -29,8 +29,13 @@ at-most-one t = when (λ (n : ℕ). n ≤ 1) t (λ _. omega arith) (λ _. omega 
 abbrev pub columnCycles : Bool → Bool → ℕ
 columnCycles before here = if (here && not before) 1 0 + if here 1 0
 
-pub column-length : (c : Chip) (k : ℕ) (picture : List ℕ) (r : ℕ) (before here : Bool) (j : ℕ)
-    → length (columnRecords c k picture r before here j) ≡ columnCycles before here
+-- the records of a column, by whether the one just before it and the column itself pass
+abbrev pub columnBy : Chip → ℕ → List ℕ → ℕ → Bool → Bool → ℕ → List Record
+columnBy c chip picture r before here j =
+    if (here && not before) (columnSet c chip j ∷ []) [] ++ if here (columnWrite c chip picture r j ∷ []) []
+
+column-length : (c : Chip) (k : ℕ) (picture : List ℕ) (r : ℕ) (before here : Bool) (j : ℕ)
+    → length (columnBy c k picture r before here j) ≡ columnCycles before here
 column-length c k picture r true true j = refl
 column-length c k picture r true false j = refl
 column-length c k picture r false true j = refl
@@ -80,31 +85,31 @@ module _ (test : ℕ → Bool) where
       (λ _. omega (arith, cycles-few segments, at-most-one (passesBefore test segments)))
 
   module _ (c : Chip) (k : ℕ) (picture : List ℕ) (r : ℕ) where
-    pub columns-length : (n : ℕ) → length (columnsRecords c k picture r test 0 n) ≡ columnsCycles n
+    pub columns-length : (n : ℕ) → length (chosenColumns c k picture r test 0 n) ≡ columnsCycles n
     unfolding joined sumBelow
     columns-length zero = refl
     columns-length (suc n) =
-        let f : ℕ → List Record = λ i. columnRecords c k picture r (passesBefore test i) (test i) i in
+        let f = columnRecords c k picture r test in
         let next = rw (add-one n) at (cycles-next n) in
         let more = rw (add-one n) at (joined-next f n) in
         ap length more
-        ∙ length-append (columnsRecords c k picture r test 0 n) (f n)
+        ∙ length-append (chosenColumns c k picture r test 0 n) (f n)
         ∙ rw (columns-length n, column-length c k picture r (passesBefore test n) (test n) n, next)
 
-    pub chosen-length : length (chosenRecords c k picture r test) ≡ chosenCycles test
-    unfolding chosenRecords chosenCycles
+    pub chosen-length : length (chosenPage c k picture r test) ≡ chosenCycles test
+    unfolding chosenPage chosenCycles
     chosen-length =
         ⊎-elim (λ t. rw t) (λ t. rw t (omega (arith, columns-length segments))) (tested (eqb (countBelow test segments) 0))
 
     -- no column passes
-    pub none-chosen : ((j : ℕ) → j < segments → test j ≡ false) → chosenRecords c k picture r test ≡ []
-    unfolding chosenRecords
+    pub none-chosen : ((j : ℕ) → j < segments → test j ≡ false) → chosenPage c k picture r test ≡ []
+    unfolding chosenPage
     none-chosen fails = rw (none-counted fails)
 
 -- columns that all pass, after one that does or as the beginning of a run; and columns that all do not
 module _ (c : Chip) (k : ℕ) (picture : List ℕ) (r : ℕ) (test : ℕ → Bool) where
   preceded-columns : (n j : ℕ) → passesBefore test j ≡ true → ((i : ℕ) → j ≤ i → i < j + n → test i ≡ true)
-      → columnsRecords c k picture r test j n ≡ tabulated (columnWrite c k picture r) j n
+      → chosenColumns c k picture r test j n ≡ tabulated (columnWrite c k picture r) j n
   unfolding joined
   preceded-columns zero j before passes = refl
   preceded-columns (suc n) j before passes =
@@ -112,13 +117,13 @@ module _ (c : Chip) (k : ℕ) (picture : List ℕ) (r : ℕ) (test : ℕ → Boo
       rw (before, here, preceded-columns n (j + 1) (rw (add-one j) here) (λ i h b. passes i (omega arith) (omega arith)))
 
   pub run-columns : (n j : ℕ) → passesBefore test j ≡ false → ((i : ℕ) → j ≤ i → i < j + suc n → test i ≡ true)
-      → columnsRecords c k picture r test j (suc n) ≡ runRecords c k picture r j (suc n)
+      → chosenColumns c k picture r test j (suc n) ≡ runRecords c k picture r j (suc n)
   unfolding joined
   run-columns n j before passes =
       let here = passes j (omega arith) (omega arith) in
       rw (before, here, preceded-columns n (j + 1) (rw (add-one j) here) (λ i h b. passes i (omega arith) (omega arith)))
 
-  pub gap-columns : (n j : ℕ) → ((i : ℕ) → j ≤ i → i < j + n → test i ≡ false) → columnsRecords c k picture r test j n ≡ []
+  pub gap-columns : (n j : ℕ) → ((i : ℕ) → j ≤ i → i < j + n → test i ≡ false) → chosenColumns c k picture r test j n ≡ []
   unfolding joined
   gap-columns zero j fails = refl
   gap-columns (suc n) j fails =
@@ -133,19 +138,27 @@ unfolding sumBelow
 every-counted zero = refl
 every-counted (suc n) = rw (every-counted n) (omega arith)
 
-pub all-chosen : (c : Chip) (k : ℕ) (picture : List ℕ) (r : ℕ) → chosenRecords c k picture r every ≡ pageRecords c k picture r
-unfolding chosenRecords pageRecords
+pub all-chosen : (c : Chip) (k : ℕ) (picture : List ℕ) (r : ℕ) → chosenPage c k picture r every ≡ pageRecords c k picture r
+unfolding chosenPage pageRecords
 all-chosen c k picture r = rw (every-counted segments, run-columns c k picture r every 60 0 refl (λ i h b. refl))
 
 -- the column looked for is this one, or one further on
-module _ (test : ℕ → Bool) (value : Bool) (j : ℕ) where
-  pub next-here : {n m : ℕ} → n ≡ suc m → Bool·beq (test j) value ≡ true → nextColumn test value j n ≡ j
-  unfolding nextColumn
-  next-here more found = rw (more, found)
+equal-values : (a : Bool) → Bool·beq a a ≡ true
+equal-values true = refl
+equal-values false = refl
 
-  pub next-later : {n m : ℕ} → n ≡ suc m → Bool·beq (test j) value ≡ false → nextColumn test value j n ≡ nextColumn test value (j + 1) m
+other-values : (a : Bool) → Bool·beq (not a) a ≡ false
+other-values true = refl
+other-values false = refl
+
+module _ (test : ℕ → Bool) (value : Bool) (j : ℕ) {n m : ℕ} (more : n ≡ suc m) where
+  pub next-here : test j ≡ value → nextColumn test value j n ≡ j
   unfolding nextColumn
-  next-later more other = rw (more, other)
+  next-here found = rw (more, found, equal-values value)
+
+  pub next-later : test j ≡ not value → nextColumn test value j n ≡ nextColumn test value (j + 1) m
+  unfolding nextColumn
+  next-later other = rw (more, other, other-values value)
 
 -- what it is
 pub record Next (test : ℕ → Bool) (value : Bool) (j n at : ℕ) : Type 0 where

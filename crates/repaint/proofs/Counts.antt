@@ -12,7 +12,7 @@ use Rattle.sed1520.proofs.Records.{bytes-length}
 use Rattle.frame.specs.Frame.{segments}
 use Rattle.panel.specs.Panel.{Panel, ramAt}
 use Rattle.repaint.specs.Repaint.{columnWrite, pageRecords, hiddenPages}
-use Rattle.repaint.specs.Sparing.{differs, bothRecords, sparingPages, bothCycles, sparingQuiet}
+use Rattle.repaint.specs.Sparing.{differs, chipRecords, sparingPages, chipCycles, sparingQuiet}
 use Rattle.repaint.proofs.ChosenColumns.{chosen-length, chosen-few}
 
 pub page-length : (c : Chip) (k : ℕ) (picture : List ℕ) (r : ℕ) → length (pageRecords c k picture r) ≡ 63
@@ -26,10 +26,10 @@ pub pages-length : (left right : Chip) (picture : List ℕ) → length (hiddenPa
 pages-length left right picture = simp (length-append, page-length)
 
 module _ (c : Chip) (k : ℕ) (ram picture : List ℕ) where
-  pub both-length : length (bothRecords c k ram picture) ≡ bothCycles c k ram picture
+  pub both-length : length (chipRecords c k ram picture) ≡ chipCycles c k ram picture
   both-length = simp (length-append, chosen-length)
 
-  pub both-few : bothCycles c k ram picture ≤ 126
+  pub both-few : chipCycles c k ram picture ≤ 126
   both-few = omega (arith, chosen-few (differs c k ram picture 0), chosen-few (differs c k ram picture 1))
 
 module _ (p : Panel) (picture : List ℕ) where

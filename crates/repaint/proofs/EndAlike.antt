@@ -16,8 +16,8 @@ use Rattle.sed1520.specs.declared.registers.Chip.{Chip}
 use Rattle.panel.specs.Panel.{Panel, chipAt, ramAt}
 use Rattle.frame.specs.Frame.{segments, ramColumn}
 use Rattle.repaint.specs.Repaint.{hiddenPage, lowestColumn, columnSegment, pictureByte, repaintSizesWrong}
-use Rattle.repaint.specs.Sparing.{differs, chosenRecords, sparingPages, sparingRecords, sparingCycles, sparingQuiet}
-use Rattle.repaint.specs.SparingPromises.{BandHeld, CyclesCounted, EveryCyclesCounted, EqualTakesTwo, sentWhole, EndAlike, NeverMore}
+use Rattle.repaint.specs.Sparing.{differs, chosenPage, sparingPages, sparingRecords, sparingCycles, sparingQuiet}
+use Rattle.repaint.specs.SparingPromises.{BandHeld, CyclesCounted, EqualTakesTwo, sentWhole, EndAlike, NeverMore}
 use Rattle.repaint.specs.TearFree.{BothReady, Request, asked, sentSoFar, shown, wanted}
 use Rattle.repaint.proofs.Small.{segment-small}
 use Rattle.repaint.proofs.ChosenColumns.{none-chosen}
@@ -101,7 +101,7 @@ module _ (p : Panel) (ready : BothReady p) where
       let planned = plans p ready (q .sparing) q refl sizes in
       let all = repaints p ready (asked p q) size (q .bytes) planned in
       let n = asked p q .quiet + 2 in
-      rw (accepted p ready q sizes .place)
+      rw (accepted p ready q sizes .number, accepted p ready q sizes .place)
       (record {
         brought = rw (stop p ready (asked p q) size (q .bytes) planned n (omega arith)) (all .brought);
         ram = ready-at-stop p ready (asked p q) size (q .bytes) planned n (omega arith) .ram;
@@ -120,8 +120,8 @@ end-alike p ready one other same sizes sizes′ =
       first .frame ∙ ap wanted same ∙ sym (second .frame),
     )
 
-pub every-cycles-counted : EveryCyclesCounted
-every-cycles-counted p picture = record { counted = cycles-counted p picture; at-most = omega (arith, sparing-few p picture) }
+pub all-cycles-counted : CyclesCounted
+all-cycles-counted = record { counted = cycles-counted; at-most = λ p picture. omega (arith, sparing-few p picture) }
 
 pub never-more : NeverMore
 never-more p ready picture one other sizes sizes′ =
@@ -138,7 +138,7 @@ module _ (p : Panel) (picture : List ℕ) (held : (k r : ℕ) → k < 2 → r < 
       let same = held k r side band .byte n (segment-small c j h) in
       rw (← column, same) (ap not (eq-eqb (pictureByte picture k n r) (pictureByte picture k n r) refl))
 
-  none-sent : (k r : ℕ) → k < 2 → r < 2 → chosenRecords (chipAt p k) k picture r (differs (chipAt p k) k (ramAt p k) picture r) ≡ []
+  none-sent : (k r : ℕ) → k < 2 → r < 2 → chosenPage (chipAt p k) k picture r (differs (chipAt p k) k (ramAt p k) picture r) ≡ []
   none-sent k r side band = none-chosen (differs (chipAt p k) k (ramAt p k) picture r) (chipAt p k) k picture r (no-difference k r side band)
 
   nothing-sent : sparingPages p picture ≡ []

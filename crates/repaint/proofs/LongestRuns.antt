@@ -4,24 +4,24 @@ use native.Mathlib.Omega.{arith}
 use native.Mathlib.Numerals.{add-one}
 use mathlib.Core.Path.{_≡_, refl, sym, ap, _∙_}
 use mathlib.Core.Bool.{Bool, true, false, not, _&&_}
-use mathlib.Core.List.{List, [], _∷_, _++_, flatMap, append-assoc, append-nil}
+use mathlib.Core.List.{List, [], _∷_, _++_, map, flatMap, append-assoc}
 use mathlib.Core.Logic.{⊎-elim}
 use lib.Dec.{eqb}
-use lib.ListN.{length}
+use lib.ListN.{length, length-append}
 use borrow.Author.Tests.{eqb-true, eqb-false}
 use Rattle.basics.specs.Choice.{if}
-use Rattle.basics.specs.Counts.{sumBelow, countBelow}
+use Rattle.basics.specs.Counts.{sumBelow, countBelow, total}
 use Rattle.basics.specs.Lists.{joined}
 use Rattle.basics.proofs.Counts.{sum-next}
-use Rattle.basics.proofs.Lists.{joined-more}
+use Rattle.basics.proofs.Lists.{joined-more, tabulated-length}
 use Rattle.basics.proofs.Tests.{tested}
 use Rattle.sed1520.specs.declared.registers.Chip.{Chip}
 use Rattle.sed1520.specs.declared.bus.Record.{Record}
 use Rattle.frame.specs.Frame.{segments}
 use Rattle.repaint.specs.Repaint.{columnWrite, columnSet, runRecords}
-use Rattle.repaint.specs.Sparing.{passesBefore, begins, columnRecords, columnsRecords, chosenRecords}
+use Rattle.repaint.specs.Sparing.{passesBefore, begins, columnRecords, chosenColumns, chosenPage}
 use Rattle.repaint.specs.SparingPromises.{Stretch, LongestRun, LongestRuns, recordsByRuns, ByLongestRuns, EveryPageByRuns}
-use Rattle.repaint.proofs.ChosenColumns.{none-counted, some-counted}
+use Rattle.repaint.proofs.ChosenColumns.{none-counted, some-counted, columns-length}
 
 -- whether a run is open, by how long it is so far
 abbrev isOpen : ℕ → Bool
@@ -41,10 +41,10 @@ module _ (c : Chip) (chip : ℕ) (picture : List ℕ) (r : ℕ) (test : ℕ → 
   run s = runRecords c chip picture r (s .start) (s .size)
 
   abbrev columns : ℕ → ℕ → List Record
-  columns = columnsRecords c chip picture r test
+  columns = chosenColumns c chip picture r test
 
   abbrev column : ℕ → List Record
-  column j = columnRecords c chip picture r (passesBefore test j) (test j) j
+  column = columnRecords c chip picture r test
 
   -- the records of the run that is open
   abbrev so-far : ℕ → ℕ → List Record
@@ -160,6 +160,13 @@ module _ (c : Chip) (chip : ℕ) (picture : List ℕ) (r : ℕ) (test : ℕ → 
       let here = rw none at later in
       rw (fails, here) (closed-records s l more)
 
+  runs-length : (runs : List Stretch) → length (flatMap run runs) ≡ length runs + total (map (λ i. i .size) runs)
+  unfolding flatMap total
+  runs-length [] = refl
+  runs-length (s ∷ more) =
+      let one = tabulated-length (columnWrite c chip picture r) (s .start) (s .size) in
+      omega (arith, length-append (run s) (flatMap run more), one, runs-length more)
+
   closed-many : (before s l : ℕ) (more : List Stretch) → before + length (closed s l more) ≡ before + if (isOpen l) 1 0 + length more
   closed-many before s zero more = omega arith
   closed-many before s (suc l) more = omega arith
@@ -197,9 +204,9 @@ module _ (c : Chip) (chip : ℕ) (picture : List ℕ) (r : ℕ) (test : ℕ → 
 
 -- the page's records by its runs: no run where no column passes, and else the first column that passes is in one
 by-runs : (c : Chip) (chip : ℕ) (picture : List ℕ) (r : ℕ) (test : ℕ → Bool) (runs : List Stretch) → LongestRuns test segments 0 runs
-    → columnsRecords c chip picture r test 0 segments ≡ flatMap (λ i. runRecords c chip picture r (i .start) (i .size)) runs
-    → chosenRecords c chip picture r test ≡ recordsByRuns c chip picture r runs
-unfolding chosenRecords
+    → chosenColumns c chip picture r test 0 segments ≡ flatMap (λ i. runRecords c chip picture r (i .start) (i .size)) runs
+    → chosenPage c chip picture r test ≡ recordsByRuns c chip picture r runs
+unfolding chosenPage
 by-runs c chip picture r test [] longest records = rw (none-counted test (λ j h. longest j (omega arith) h))
 by-runs c chip picture r test (s ∷ more) longest records =
     let first = longest .1 .1 .0 in
@@ -207,10 +214,23 @@ by-runs c chip picture r test (s ∷ more) longest records =
     let within = first .within in
     rw (some-counted test (s .start) (omega arith) (first .passes (s .start) (omega arith) (omega arith)), records)
 
+-- of the records, those that are not column sets
+the-rest : {all runs columns begun count : ℕ} → all ≡ runs + columns → runs ≡ begun → all ≡ begun + count → columns ≡ count
+the-rest size many counted = omega arith
+
 pub every-page-by-runs : EveryPageByRuns
 unfolding sumBelow
 every-page-by-runs c chip picture r test =
     let none : Opened c chip picture r test segments 0 0 0
     = record { passes = λ i h b. absurd (omega arith); first = refl; counted = refl } in
     let all = split c chip picture r test segments segments 0 0 0 none (omega arith) in
-    record { runs = all .runs; longest = all .longest; records = by-runs c chip picture r test (all .runs) (all .longest) (all .records); many = omega (arith, all .many) }
+    let many : length (all .runs) ≡ countBelow (begins test) segments = omega (arith, all .many) in
+    let size : length (chosenColumns c chip picture r test 0 segments) ≡ length (all .runs) + total (map (λ i. i .size) (all .runs)) =
+    ap length (all .records) ∙ runs-length c chip picture r test segments (all .runs) in
+    record {
+      runs = all .runs;
+      longest = all .longest;
+      records = by-runs c chip picture r test (all .runs) (all .longest) (all .records);
+      many = many;
+      columns = the-rest size many (columns-length test c chip picture r segments);
+    }

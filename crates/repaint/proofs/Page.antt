@@ -23,7 +23,7 @@ use Rattle.sed1520.proofs.CycleLaws.{cycle-laws}
 use Rattle.panel.proofs.WholePanel.{whole-fit}
 use Rattle.frame.specs.Frame.{segments, ramColumn}
 use Rattle.repaint.specs.Repaint.{hiddenPage, lowestColumn, columnSegment, pictureByte, pageSet}
-use Rattle.repaint.specs.Sparing.{columnsRecords, chosenRecords}
+use Rattle.repaint.specs.Sparing.{chosenColumns, chosenPage}
 use Rattle.repaint.specs.SparingPromises.{BandHeld}
 use Rattle.repaint.specs.TearFree.{Ready, BothReady}
 use Rattle.repaint.proofs.Quiet.{shownPage, Quiet, ready-at, two-pages}
@@ -122,7 +122,7 @@ module _ (p : Panel) (ready : BothReady p) (picture : List ℕ) where
     q₁ = stepped q set-page
 
     abbrev columns : List Record
-    columns = columnsRecords c k picture r test 0 segments
+    columns = chosenColumns c k picture r test 0 segments
 
     near : page < 4
     near = page-small c r band
@@ -165,8 +165,8 @@ module _ (p : Panel) (ready : BothReady p) (picture : List ℕ) where
           other-ram = λ j d. all-wrote .other-ram j d ∙ on-page .move .other-ram j d;
         })
 
-    pub painted : Painted (chosenRecords c k picture r test) q (after q (chosenRecords c k picture r test)) k r
-    unfolding chosenRecords
+    pub painted : Painted (chosenPage c k picture r test) q (after q (chosenPage c k picture r test)) k r
+    unfolding chosenPage
     painted =
         ⊎-elim
         (λ t. rw t (nothing (eqb-true (countBelow test segments) 0 t)))

@@ -13,7 +13,7 @@ use Rattle.sed1520.specs.declared.bus.Record.{Record}
 use Rattle.frame.specs.Frame.{segments, ramColumn}
 use Rattle.frame.proofs.HalfLaws.{half-laws}
 use Rattle.repaint.specs.Repaint.{hiddenPage, lowestColumn, columnSegment, pictureByte, hiddenPages}
-use Rattle.repaint.specs.Sparing.{chosenRecords, differs, sparingPages}
+use Rattle.repaint.specs.Sparing.{chosenPage, differs, sparingPages}
 use Rattle.repaint.specs.TearFree.{BothReady}
 use Rattle.repaint.proofs.Small.{column-small}
 use Rattle.repaint.proofs.Quiet.{Quiet, quiet-at-start}
@@ -28,7 +28,7 @@ module _
     → byteAt (ramAt p k) (hiddenPage (chipAt p k) r) (lowestColumn (chipAt p k) + j) ≡ pictureByte picture k (columnSegment (chipAt p k) j) r) where
   -- the records of a hidden page, by chip and band
   abbrev page : ℕ → ℕ → List Record
-  page k r = chosenRecords (chipAt p k) k picture r (test k r)
+  page k r = chosenPage (chipAt p k) k picture r (test k r)
 
   -- the panel after each page
   abbrev p₁ : Panel

@@ -23,8 +23,9 @@ use Rattle.sed1520.proofs.Cells.{read-written, read-other}
 use Rattle.sed1520.proofs.CycleLaws.{cycle-laws}
 use Rattle.panel.proofs.WholePanel.{whole-fit}
 use Rattle.repaint.specs.Repaint.{hiddenPage, lowestColumn, columnSegment, pictureByte, columnWrite, columnSet}
-use Rattle.repaint.specs.Sparing.{passesBefore, columnRecords, columnsRecords}
+use Rattle.repaint.specs.Sparing.{passesBefore, columnRecords, chosenColumns}
 use Rattle.repaint.specs.TearFree.{BothReady}
+use Rattle.repaint.proofs.ChosenColumns.{columnBy}
 use Rattle.repaint.proofs.Sides.{Moved, taken, moved}
 use Rattle.repaint.proofs.Quiet.{shownPage, Quiet, ready-at, quiet-moved}
 
@@ -161,7 +162,7 @@ module _
 
   -- one column
   one-column : (before here : Bool) (q : Panel) (j : ℕ) → passesBefore test j ≡ before → test j ≡ here → Quiet p q → Stands q j → base + j < 80
-      → Wrote (columnRecords c k picture r before here j) q (after q (columnRecords c k picture r before here j)) j 1
+      → Wrote (columnBy c k picture r before here j) q (after q (columnBy c k picture r before here j)) j 1
   one-column before false q j was is quiet stands below =
       none-written q j 1 quiet
       (record { at-page = stands .at-page; at-column = λ t. absurd (true≢false (sym t ∙ rw (add-one j) is)) })
@@ -199,13 +200,13 @@ module _
       }
 
   pub wrote : (n j : ℕ) (q : Panel) → Quiet p q → Stands q j → base + (j + n) ≤ 80
-      → Wrote (columnsRecords c k picture r test j n) q (after q (columnsRecords c k picture r test j n)) j n
+      → Wrote (chosenColumns c k picture r test j n) q (after q (chosenColumns c k picture r test j n)) j n
   unfolding joined
   wrote zero j q quiet stands room =
       let none : j + 0 ≡ j = omega arith in none-written q j 0 quiet (rw none stands) (λ i l h. absurd (omega arith))
   wrote (suc n) j q quiet stands room =
       let one = one-column (passesBefore test j) (test j) q j refl refl quiet stands (omega arith) in
       let rest = wrote n (j + 1) _ (one .quiet) (one .stands) (omega arith) in
-      rw (state-join panelStep q (columnRecords c k picture r (passesBefore test j) (test j) j) (columnsRecords c k picture r test (j + 1) n)
+      rw (state-join panelStep q (columnRecords c k picture r test j) (chosenColumns c k picture r test (j + 1) n)
       (one .stops .done))
       (column-joined refl (omega arith) one rest)

@@ -12,7 +12,7 @@ use Rattle.basics.proofs.Tests.{tested}
 use Rattle.sed1520.specs.declared.registers.Chip.{Chip}
 use Rattle.sed1520.specs.declared.bus.Record.{Record}
 use Rattle.frame.specs.Frame.{segments}
-use Rattle.repaint.specs.Sparing.{passesBefore, columnRecords, columnsRecords, nextColumn}
+use Rattle.repaint.specs.Sparing.{passesBefore, columnRecords, chosenColumns, nextColumn}
 use Rattle.repaint.proofs.ChosenColumns.{gap-columns, next-is}
 
 -- a run begins at the j-th column, unless that is past the last
@@ -75,13 +75,13 @@ module _ (test : ℕ → Bool) where
     gap-passed = let next = next-is test true from (segments - from) is in next .from
 
     pub gap-records : (c : Chip) (k : ℕ) (picture : List ℕ) (r : ℕ)
-        → columnsRecords c k picture r test 0 at ≡ columnsRecords c k picture r test 0 from
+        → chosenColumns c k picture r test 0 at ≡ chosenColumns c k picture r test 0 from
     gap-records c k picture r =
         let next = next-is test true from (segments - from) is in
-        let f : ℕ → List Record = λ i. columnRecords c k picture r (passesBefore test i) (test i) i in
+        let f = columnRecords c k picture r test in
         let h = next .from in
         let all : at ≡ from + (at - from) = omega arith in
         let here : 0 + from ≡ from = omega arith in
-        ap (λ n. columnsRecords c k picture r test 0 n) all
+        ap (λ n. chosenColumns c k picture r test 0 n) all
         ∙ joined-split f 0 from (at - from)
         ∙ rw (here, gap-columns c k picture r test (at - from) from (λ i l b. next .before i l (omega arith)), append-nil)

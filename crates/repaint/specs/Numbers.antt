@@ -1,4 +1,5 @@
--- The numbers that each repaint is refused by, each given exactly when document 01's table says so; 1 of the sparing one also for its RAM.
+-- The numbers that each repaint is refused by, each given exactly when document 01's table says so; the sparing repaint gives number 1 also for an
+-- image that is not 640 bytes.
 use Prim.Native.Nat.{ℕ}
 use mathlib.Core.List.{List}
 use lib.ListN.{length}

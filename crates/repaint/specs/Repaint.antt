@@ -18,9 +18,13 @@ use Rattle.sed1520.specs.declared.bus.Record.{Record}
 use Rattle.sed1520.specs.declared.commands.Opcode.the-variants.{StartLine, Page, Column}
 use Rattle.frame.specs.Frame.{segments, columns, framePlace}
 
--- how many bytes the records of one hidden page are, a page set, a column set and 61 data writes: 252
+-- how many bytes the data writes of one hidden page are: 244
+abbrev pub writesLength : ℕ
+writesLength = 4 * segments
+
+-- how many bytes the records of one hidden page are, its page set and column set before its data writes: 252
 abbrev pub pageLength : ℕ
-pageLength = 8 + 4 * segments
+pageLength = 8 + writesLength
 
 -- how many records come before the first start line turns, 63 for each of four hidden pages: 252
 abbrev pub quietCycles : ℕ
@@ -42,7 +46,7 @@ hiddenPage c r = if (eqb (c .«start_line») 0) (2 + r) r
 abbrev pub lowestColumn : Chip → ℕ
 lowestColumn c = if (c .reverse) (columnStop - segments) 0
 
--- the segment that is shown from the j-th column, counted from the lowest
+-- the segment that is shown from shown column j: these are the 61 columns from the lowest on, of which the lowest is column 0
 abbrev pub columnSegment : Chip → ℕ → ℕ
 columnSegment c j = if (c .reverse) (segments - 1 - j) j
 
@@ -50,7 +54,7 @@ columnSegment c j = if (c .reverse) (segments - 1 - j) j
 abbrev pub pictureByte : List ℕ → ℕ → ℕ → ℕ → ℕ
 pictureByte picture chip n r = getD picture (framePlace chip n r) 0
 
--- the data write of band r to the j-th column, counted from the lowest
+-- the data write of band r to shown column j
 abbrev pub columnWrite : Chip → ℕ → List ℕ → ℕ → ℕ → Record
 columnWrite c chip picture r j = sent 3 chip (pictureByte picture chip (columnSegment c j) r)
 
@@ -58,11 +62,11 @@ columnWrite c chip picture r j = sent 3 chip (pictureByte picture chip (columnSe
 abbrev pub pageSet : Chip → ℕ → ℕ → Record
 pageSet c chip r = sent 2 chip (first Page + hiddenPage c r)
 
--- the record that sets the j-th column, counted from the lowest
+-- the record that sets shown column j
 abbrev pub columnSet : Chip → ℕ → ℕ → Record
 columnSet c chip j = sent 2 chip (first Column + (lowestColumn c + j))
 
--- the records of a run of n columns, from the j-th on: one column set, n data writes
+-- the records of a run of n shown columns, from column j on: one column set, n data writes
 abbrev pub runRecords : Chip → ℕ → List ℕ → ℕ → ℕ → ℕ → List Record
 runRecords c chip picture r j n = columnSet c chip j ∷ tabulated (columnWrite c chip picture r) j n
 

@@ -1,13 +1,13 @@
 -- The sparing repaint (request C-17): the records that bring a 122 by 16 picture to the panel and write, of the hidden pages, only the bytes that
 -- differ from it.
-use Prim.Native.Nat.{ℕ, zero, suc, _+_, _*_}
+use Prim.Native.Nat.{ℕ, zero, suc, _+_, _-_, _*_}
 use mathlib.Core.Bool.{Bool, false, not, _&&_, _||_, Bool·beq}
 use mathlib.Core.List.{List, [], _∷_, _++_}
 use lib.Dec.{eqb}
 use lib.ListN.{length, drop}
 use Rattle.basics.specs.Choice.{if}
 use Rattle.basics.specs.Counts.{countBelow}
-use Rattle.basics.specs.Lists.{joined}
+use Rattle.basics.specs.Lists.{joined, tabulated}
 use Rattle.basics.specs.Table.{Cause, cause, unlessRefused}
 use Rattle.basics.specs.Verdict.{verdict, Result, result}
 use Rattle.basics.specs.declared.verdict.Verdict.{Verdict}
@@ -19,73 +19,67 @@ use Rattle.panel.specs.Panel.{imageLength, Panel, ramAt}
 use Rattle.frame.specs.Frame.{segments}
 use Rattle.repaint.specs.Repaint.{hiddenPage, lowestColumn, columnSegment, pictureByte, pageSet, columnWrite, columnSet, lineTurns, repaintSizesWrong, readyTable}
 
--- whether the byte of the j-th column, counted from the lowest, of the hidden page for band r differs from the picture's
+-- whether, in a chip's 320 bytes, the byte of shown column j of the hidden page for band r differs from the picture's
 abbrev pub differs : Chip → ℕ → List ℕ → List ℕ → ℕ → ℕ → Bool
 differs c chip ram picture r j =
     not (eqb (byteAt ram (hiddenPage c r) (lowestColumn c + j)) (pictureByte picture chip (columnSegment c j) r))
 
--- whether the column before the j-th passes a test; the lowest has none before it
+-- whether the column just before column j passes a test; false for column 0, which has none before it
 abbrev pub passesBefore : (ℕ → Bool) → ℕ → Bool
 passesBefore test zero = false
 passesBefore test (suc j) = test j
 
--- a run of columns that pass a test begins at one that passes with none before it that does
+-- whether a run of columns that pass a test begins at column j: it passes, and the column just before it does not
 abbrev pub begins : (ℕ → Bool) → ℕ → Bool
 begins test j = test j && not (passesBefore test j)
 
--- the records of the j-th column, by whether the column before it and the column itself are written: a column set where a run begins, the data write
-abbrev pub columnRecords : Chip → ℕ → List ℕ → ℕ → Bool → Bool → ℕ → List Record
-columnRecords c chip picture r before here j =
-    if (here && not before) (columnSet c chip j ∷ []) [] ++ if here (columnWrite c chip picture r j ∷ []) []
+-- the records of column j, where the columns that pass a test are written: a column set where a run begins, then the data write; none where the
+-- column does not pass
+abbrev pub columnRecords : Chip → ℕ → List ℕ → ℕ → (ℕ → Bool) → ℕ → List Record
+columnRecords c chip picture r test j =
+    if (begins test j) (columnSet c chip j ∷ []) [] ++ if (test j) (columnWrite c chip picture r j ∷ []) []
 
--- the records of n columns from the j-th on, of which those that pass a test are written
-abbrev pub columnsRecords : Chip → ℕ → List ℕ → ℕ → (ℕ → Bool) → ℕ → ℕ → List Record
-columnsRecords c chip picture r test j n = joined (λ i. columnRecords c chip picture r (passesBefore test i) (test i) i) j n
+-- the records of n columns, from column j on, where those that pass a test are written
+abbrev pub chosenColumns : Chip → ℕ → List ℕ → ℕ → (ℕ → Bool) → ℕ → ℕ → List Record
+chosenColumns c chip picture r test j n = joined (columnRecords c chip picture r test) j n
 
--- the records that write those columns of band r that pass a test to its hidden page: none where no column does, else page set and the columns
-unfoldable pub chosenRecords : Chip → ℕ → List ℕ → ℕ → (ℕ → Bool) → List Record
-chosenRecords c chip picture r test =
-    if (eqb (countBelow test segments) 0) [] (pageSet c chip r ∷ columnsRecords c chip picture r test 0 segments)
+-- the records that write to the hidden page for band r those of its columns that pass a test: none where no column does, else the page set, then the
+-- records of its columns
+unfoldable pub chosenPage : Chip → ℕ → List ℕ → ℕ → (ℕ → Bool) → List Record
+chosenPage c chip picture r test =
+    if (eqb (countBelow test segments) 0) [] (pageSet c chip r ∷ chosenColumns c chip picture r test 0 segments)
 
--- how many cycles that takes: none where no column passes, else one for the page, one for each run and one for each column that passes
+-- how many cycles a page takes, counted by the rule: none where no column passes, else one for the page set, one for each run and one for each
+-- column that passes
 unfoldable pub chosenCycles : (ℕ → Bool) → ℕ
 chosenCycles test = if (eqb (countBelow test segments) 0) 0 (1 + (countBelow (begins test) segments + countBelow test segments))
 
--- the records of a chip's two hidden pages, the lower one first, by its 320 bytes: those columns that differ from the picture
-abbrev pub bothRecords : Chip → ℕ → List ℕ → List ℕ → List Record
-bothRecords c chip ram picture =
-    chosenRecords c chip picture 0 (differs c chip ram picture 0) ++ chosenRecords c chip picture 1 (differs c chip ram picture 1)
+-- the records of a chip's two hidden pages, the lower one first, by its 320 bytes: the columns that differ are written
+abbrev pub chipRecords : Chip → ℕ → List ℕ → List ℕ → List Record
+chipRecords c chip ram picture =
+    chosenPage c chip picture 0 (differs c chip ram picture 0) ++ chosenPage c chip picture 1 (differs c chip ram picture 1)
 
 -- the records of the left chip's hidden pages, then of the right chip's
 abbrev pub sparingPages : Panel → List ℕ → List Record
-sparingPages p picture = bothRecords (p .left) 0 (ramAt p 0) picture ++ bothRecords (p .right) 1 (ramAt p 1) picture
+sparingPages p picture = chipRecords (p .left) 0 (ramAt p 0) picture ++ chipRecords (p .right) 1 (ramAt p 1) picture
 
 -- the records of a sparing repaint: two start lines turned last, always
 unfoldable pub sparingRecords : Panel → List ℕ → List Record
 sparingRecords p picture = sparingPages p picture ++ lineTurns (p .left) (p .right)
 
 -- how many cycles a chip's two hidden pages take, by its 320 bytes
-abbrev pub bothCycles : Chip → ℕ → List ℕ → List ℕ → ℕ
-bothCycles c chip ram picture = chosenCycles (differs c chip ram picture 0) + chosenCycles (differs c chip ram picture 1)
+abbrev pub chipCycles : Chip → ℕ → List ℕ → List ℕ → ℕ
+chipCycles c chip ram picture = chosenCycles (differs c chip ram picture 0) + chosenCycles (differs c chip ram picture 1)
 
 -- how many cycles come before the first start line turns
 abbrev pub sparingQuiet : Panel → List ℕ → ℕ
-sparingQuiet p picture = bothCycles (p .left) 0 (ramAt p 0) picture + bothCycles (p .right) 1 (ramAt p 1) picture
+sparingQuiet p picture = chipCycles (p .left) 0 (ramAt p 0) picture + chipCycles (p .right) 1 (ramAt p 1) picture
 
--- how many cycles a sparing repaint has, by that rule
+-- how many cycles a sparing repaint has: those of its pages and runs, and the two start lines
 abbrev pub sparingCycles : Panel → List ℕ → ℕ
 sparingCycles p picture = sparingQuiet p picture + 2
 
--- the first of n columns from the j-th on at which a test gives a value, or the one past them
-unfoldable pub nextColumn : (ℕ → Bool) → Bool → ℕ → ℕ → ℕ
-nextColumn test value j zero = j
-nextColumn test value j (suc n) = if (Bool·beq (test j) value) j (nextColumn test value (j + 1) n)
-
--- records put to the front of a buffer: how many bytes they are, and the buffer with the rest as it was
-abbrev pub putFront : List Record → List ℕ → Result ℕ (List ℕ)
-putFront records buffer = result (4 * length records) (recordsBytes records ++ drop (4 * length records) buffer)
-
--- number 1: an image that is not 640 bytes, or the repaint's
+-- number 1: an image that is not 640 bytes, or a size that the repaint refuses with number 1
 abbrev pub sparingSizesWrong : ℕ → ℕ → ℕ → Bool
 sparingSizesWrong ram picture buffer = not (eqb ram imageLength) || repaintSizesWrong picture buffer
 
@@ -93,9 +87,24 @@ sparingSizesWrong ram picture buffer = not (eqb ram imageLength) || repaintSizes
 abbrev pub sparingTable : Chip → Chip → ℕ → ℕ → ℕ → List Cause
 sparingTable left right ram picture buffer = cause 1 0 (sparingSizesWrong ram picture buffer) ∷ readyTable left right
 
--- the sparing repaint's call: its numbers, which leave the buffer as it came, else the records, how many they are as place, and the rest of the
--- buffer as it was
+-- the sparing repaint's call: its numbers, which leave the buffer as it came, else the records, with the count of cycles as place (CyclesCounted: they
+-- are as many) and the rest of the buffer as it was
 unfoldable pub sparingOf : Panel → List ℕ → List ℕ → Result Verdict (List ℕ)
 sparingOf p picture buffer =
     unlessRefused (sparingTable (p .left) (p .right) (length (p .ram)) (length picture) (length buffer)) (λ n at. result (verdict n at) buffer)
     (result (verdict 0 (sparingCycles p picture)) (recordsBytes (sparingRecords p picture) ++ drop (4 * sparingCycles p picture) buffer))
+
+-- what a function gives that puts records to the front of a buffer with room for them: how many bytes they are, and the rest of the buffer as it was
+abbrev pub putFront : List Record → List ℕ → Result ℕ (List ℕ)
+putFront records buffer = result (4 * length records) (recordsBytes records ++ drop (4 * length records) buffer)
+
+-- the first of n columns, from column j on, at which a test gives a value, or the one past them
+unfoldable pub nextColumn : (ℕ → Bool) → Bool → ℕ → ℕ → ℕ
+nextColumn test value j zero = j
+nextColumn test value j (suc n) = if (Bool·beq (test j) value) j (nextColumn test value (j + 1) n)
+
+-- what a function gives that puts the data writes of a run, from column j on, to the front of a buffer with room for them: the column past the run, and
+-- the rest of the buffer as it was
+abbrev pub runWritten : Chip → ℕ → List ℕ → ℕ → ℕ → ℕ → List ℕ → Result ℕ (List ℕ)
+runWritten c chip picture r j end buffer =
+    result end (recordsBytes (tabulated (columnWrite c chip picture r) j (end - j)) ++ drop (4 * (end - j)) buffer)

@@ -1,7 +1,7 @@
 -- Demand 3 of the minutes: of a repaint's cycles only the last two can change what the panel shows, the left half first. So a repaint tears the panel
--- (the minutes: a mixed name) only between these two; stopped just there, the panel stays torn until the last two cycles of a later repaint. One
--- statement about a whole list of repaints, sparing or not, from any panel whose chips are both ready, each repaint beginning where the one before
--- it left the panel, each stopped after any whole cycle.
+-- (the minutes: a mixed name) only between these two; stopped just there, the panel stays torn until the last two cycles of a later repaint. It is
+-- one statement about a whole list of repaints, sparing or not, from any panel whose chips are both ready, each repaint beginning where the one
+-- before it left the panel, each stopped after any whole cycle.
 use Prim.Native.Nat.{ℕ, _+_, _*_, _≤_, _<_}
 use mathlib.Core.Path.{_≡_}
 use mathlib.Core.Bool.{Bool, true, false, _||_}
@@ -34,14 +34,39 @@ pub record BothReady (p : Panel) : Type 0 where
   pub right : Ready (p .right)
   pub ram : length (p .ram) ≡ imageLength
 
--- one repaint begun on a panel: its picture, the buffer that it was lent and what its call gives back; and, where it is accepted, how many of its
--- cycles come before the first start line turns, and how many of all are sent
+-- one repaint begun on a panel (made by `asked`, `plainAsked`): its picture, the buffer that it was lent and what its call gives back; and, where it
+-- is accepted, how many of its cycles come before the first start line turns, and how many of all its cycles are sent
 pub record Sending : Type 0 where
   pub picture : List ℕ
   pub buffer : List ℕ
   pub given : Result Verdict (List ℕ)
   pub quiet : ℕ
   pub stop : ℕ
+
+-- one repaint of a list: whether it is the sparing one, a picture of bytes and an output buffer, both of any length, and after how many of its
+-- cycles it stops
+pub record Request : Type 0 where
+  pub sparing : Bool
+  pub picture : List ℕ
+  pub buffer : List ℕ
+  pub stop : ℕ
+  pub bytes : (i : ℕ) → getD picture i 0 < 256
+
+-- how many cycles come before the first start line turns: 252 of the repaint, of the sparing one by the RAM as it stands
+abbrev pub quietOf : Panel → Request → ℕ
+quietOf p q = if (q .sparing) (sparingQuiet p (q .picture)) quietCycles
+
+-- a repaint called with the chips as they stand, the sparing one lent the RAM as it stands; a stop after more cycles than it has comes after all of them
+abbrev pub asked : Panel → Request → Sending
+asked p q =
+    let n = quietOf p q + 2 in
+    record {
+      picture = q .picture;
+      buffer = q .buffer;
+      given = if (q .sparing) (sparingOf p (q .picture) (q .buffer)) (repaintOf (p .left) (p .right) (q .picture) (q .buffer));
+      quiet = quietOf p q;
+      stop = if (ltb n (q .stop)) n (q .stop);
+    }
 
 -- the panel after the first k records that a repaint leaves in the buffer
 abbrev pub sentSoFar : Panel → Sending → ℕ → Panel
@@ -96,42 +121,18 @@ pub record SizesInNumbers : Type 0 where
   pub right : (picture buffer : ℕ) → picture ≡ pictureLength → outputLength ≤ buffer → repaintSizesWrong picture buffer ≡ false
   pub wrong : (picture buffer : ℕ) → (picture ≡ pictureLength → outputLength ≤ buffer → ⊥) → repaintSizesWrong picture buffer ≡ true
 
--- what is promised of one repaint: it is refused exactly when a size is wrong (SizesInNumbers)
+-- what is promised of one repaint: it is refused exactly when picture or buffer has a wrong size (SizesInNumbers); the RAM, for which the sparing one
+-- is refused too, is 640 bytes on every panel here
 abbrev pub Safe : Panel → Sending → Type 0
 Safe p s =
     (repaintSizesWrong (length (s .picture)) (length (s .buffer)) ≡ true → Refused p s)
     × (repaintSizesWrong (length (s .picture)) (length (s .buffer)) ≡ false → Accepted p s)
 
 -- every repaint of a list is safe, and so is any other one, begun afresh from the panel that the list leaves; a panel in the middle of a repaint is
--- left by the list that ends with that repaint stopped there. Each is asked for of the panel as it stands when it begins
+-- left by the list that ends with that repaint stopped there. `begun` says what a repaint of the list is on the panel as it stands when it begins
 unfoldable pub AllSafe : {Q : Type 0} → (Panel → Q → Sending) → Panel → List Q → Type 0
-AllSafe {Q} asked p [] = (q : Q) → Safe p (asked p q)
-AllSafe asked p (q ∷ qs) = Safe p (asked p q) × AllSafe asked (leaves p (asked p q)) qs
-
--- one repaint of a list: whether it is the sparing one, a picture of bytes and an output buffer, both of any length, and after how many of its
--- cycles it stops
-pub record Request : Type 0 where
-  pub sparing : Bool
-  pub picture : List ℕ
-  pub buffer : List ℕ
-  pub stop : ℕ
-  pub bytes : (i : ℕ) → getD picture i 0 < 256
-
--- how many cycles come before the first start line turns: of the sparing repaint, by the RAM as it stands
-abbrev pub quietOf : Panel → Request → ℕ
-quietOf p q = if (q .sparing) (sparingQuiet p (q .picture)) quietCycles
-
--- a repaint called with the chips as they stand, the sparing one lent the RAM as it stands; a stop after more cycles than it has comes after all of them
-abbrev pub asked : Panel → Request → Sending
-asked p q =
-    let n = quietOf p q + 2 in
-    record {
-      picture = q .picture;
-      buffer = q .buffer;
-      given = if (q .sparing) (sparingOf p (q .picture) (q .buffer)) (repaintOf (p .left) (p .right) (q .picture) (q .buffer));
-      quiet = quietOf p q;
-      stop = if (ltb n (q .stop)) n (q .stop);
-    }
+AllSafe {Q} begun p [] = (q : Q) → Safe p (begun p q)
+AllSafe begun p (q ∷ qs) = Safe p (begun p q) × AllSafe begun (leaves p (begun p q)) qs
 
 -- demand 3: from any panel whose chips are both ready, every list of repaints is safe
 abbrev pub TearFree : Type 0
@@ -145,7 +146,7 @@ pub record PlainRequest : Type 0 where
   pub bytes : (i : ℕ) → getD picture i 0 < 256
   pub within : stop ≤ repaintCycles
 
--- that repaint, called with the chips as they stand: 252 of its 254 cycles are quiet, whatever the RAM holds
+-- that repaint, called with the chips as they stand: 252 of its 254 cycles come before the first start line turns, whatever the RAM holds
 abbrev pub plainAsked : Panel → PlainRequest → Sending
 plainAsked p q =
     record {
@@ -156,6 +157,6 @@ plainAsked p q =
       stop = q .stop;
     }
 
--- demand 3 of lists without a sparing repaint, as document 01 has it: a corollary
+-- demand 3 of lists without a sparing repaint, as document 01 has it: it follows from TearFree
 abbrev pub PlainTearFree : Type 0
 PlainTearFree = (p : Panel) → BothReady p → (qs : List PlainRequest) → AllSafe plainAsked p qs

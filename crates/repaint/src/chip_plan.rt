@@ -1,12 +1,12 @@
 // The records that a repaint sends to one chip, each written to the front of a lent part of the output buffer.
-ghost use Prim.Native.Nat.{_+_, _*_, _<_, _≤_};
+ghost use Prim.Native.Nat.{_<_, _≤_};
 ghost use mathlib.Core.Path.{_≡_};
 ghost use mathlib.Core.List.{_++_};
 ghost use lib.ListN.{length, drop};
 ghost use Rattle.basics.specs.Lists.{tabulated};
 ghost use Rattle.sed1520.specs.Records.{recordBytes, recordsBytes};
-ghost use Rattle.repaint.specs.Repaint.{pageLength, hiddenPage, lowestColumn, columnSegment, pictureByte};
-ghost use Rattle.repaint.specs.Repaint.{pictureLength, pageSet, columnWrite, runRecords, pageRecords, turnedLine, turn};
+ghost use Rattle.repaint.specs.Repaint.{writesLength, pageLength, hiddenPage, lowestColumn, columnSegment, pictureByte};
+ghost use Rattle.repaint.specs.Repaint.{pictureLength, pageSet, columnWrite, columnSet, pageRecords, turnedLine, turn};
 ghost use Rattle.sed1520.specs.Laws.{sent};
 ghost use Rattle.frame.specs.Frame.{segments};
 use frame::place::place;
@@ -14,7 +14,7 @@ use sed1520::commands::Opcode;
 use sed1520::registers::Chip;
 
 // The 4 bytes of a record.
-fn put_record(lines: u8, which: u8, byte: u8, output: &mut [u8])
+pub(crate) fn put_record(lines: u8, which: u8, byte: u8, output: &mut [u8])
     requires { ⌜ 4 ≤ length (now output) ⌝ }
     ensures { λ _. ⌜ now (output .exit) ≡ recordBytes (sent lines which byte) ++ drop 4 (now (output .entry)) ⌝ }
 {
@@ -56,7 +56,21 @@ pub(crate) fn lowest_column(chip: Chip) -> u8
     if chip.reverse { LOWEST_IN_REVERSE } else { 0 }
 }
 
-// The segment that is shown from the j-th column, counted from the lowest.
+// The record that sets shown column j.
+pub(crate) fn put_column_set(chip: Chip, which: u8, j: usize, output: &mut [u8])
+    requires { ⌜ j < segments ⌝ }
+    requires { ⌜ 4 ≤ length (now output) ⌝ }
+    ensures { λ _. ⌜ now (output .exit) ≡ recordBytes (columnSet chip which j) ++ drop 4 (now (output .entry)) ⌝ }
+{
+    put_record(
+        2,
+        which,
+        Opcode::Column.first() + (lowest_column(chip) + (j as u8)),
+        output,
+    );
+}
+
+// The segment that is shown from shown column j: these are the 61 columns from the lowest on.
 pub(crate) fn column_segment(chip: Chip, j: usize) -> usize
     requires { ⌜ j < segments ⌝ }
     ensures { λ r. ⌜ r ≡ columnSegment chip j ⌝ }
@@ -78,58 +92,23 @@ pub(crate) fn picture_byte(picture: &[u8], which: u8, n: usize, band: u8) -> u8
     picture[place(which, n as u8, band)]
 }
 
-// Data writes to n columns, from one on, counted from the lowest.
-fn put_writes(
-    chip: Chip,
-    which: u8,
-    picture: &[u8],
-    band: u8,
-    from: usize,
-    n: usize,
-    output: &mut [u8],
-)
+// The data writes of a page.
+fn put_writes(chip: Chip, which: u8, picture: &[u8], band: u8, output: &mut [u8])
     requires { ⌜ length (now picture) ≡ pictureLength ⌝ }
     requires { ⌜ band < 2 ⌝ }
-    requires { ⌜ from + n ≤ segments ⌝ }
-    requires { ⌜ 4 * n ≤ length (now output) ⌝ }
+    requires { ⌜ writesLength ≤ length (now output) ⌝ }
     ensures { λ _. ⌜ now (output .exit)
-        ≡ recordsBytes (tabulated (columnWrite chip which (now (picture .entry)) band) from n) ++ drop (4 * n) (now (output .entry)) ⌝ }
+        ≡ recordsBytes (tabulated (columnWrite chip which (now (picture .entry)) band) 0 segments) ++ drop writesLength (now (output .entry)) ⌝ }
 {
-    let mut i = 0;
-    while i < n {
-        let byte = picture_byte(picture, which, column_segment(chip, from + i), band);
-        put_record(3, which, byte, &mut output[4 * i..]);
-        i = i + 1;
+    let mut j = 0;
+    while j < Chip::SEGMENTS {
+        let byte = picture_byte(picture, which, column_segment(chip, j), band);
+        put_record(3, which, byte, &mut output[4 * j..]);
+        j = j + 1;
     }
 }
 
-// A run of n columns, from one on: the column is set, and the bytes are written.
-pub(crate) fn put_run(
-    chip: Chip,
-    which: u8,
-    picture: &[u8],
-    band: u8,
-    from: usize,
-    n: usize,
-    output: &mut [u8],
-)
-    requires { ⌜ length (now picture) ≡ pictureLength ⌝ }
-    requires { ⌜ band < 2 ⌝ }
-    requires { ⌜ from + n ≤ segments ⌝ }
-    requires { ⌜ 4 + 4 * n ≤ length (now output) ⌝ }
-    ensures { λ _. ⌜ now (output .exit)
-        ≡ recordsBytes (runRecords chip which (now (picture .entry)) band from n) ++ drop (4 + 4 * n) (now (output .entry)) ⌝ }
-{
-    put_record(
-        2,
-        which,
-        Opcode::Column.first() + (lowest_column(chip) + (from as u8)),
-        output,
-    );
-    put_writes(chip, which, picture, band, from, n, &mut output[4..]);
-}
-
-// A hidden page: its number, then all its columns as one run.
+// A hidden page: its number, its lowest column, its bytes.
 pub(crate) fn put_page(chip: Chip, which: u8, picture: &[u8], band: u8, output: &mut [u8])
     requires { ⌜ length (now picture) ≡ pictureLength ⌝ }
     requires { ⌜ band < 2 ⌝ }
@@ -138,15 +117,8 @@ pub(crate) fn put_page(chip: Chip, which: u8, picture: &[u8], band: u8, output: 
         ≡ recordsBytes (pageRecords chip which (now (picture .entry)) band) ++ drop pageLength (now (output .entry)) ⌝ }
 {
     put_page_set(chip, which, band, output);
-    put_run(
-        chip,
-        which,
-        picture,
-        band,
-        0,
-        Chip::SEGMENTS,
-        &mut output[4..],
-    );
+    put_column_set(chip, which, 0, &mut output[4..]);
+    put_writes(chip, which, picture, band, &mut output[8..]);
 }
 
 // The start line turned from 0 to 16 or from 16 to 0.

@@ -15,7 +15,7 @@ ghost use Rattle.repaint.specs.Sparing.{putFront, sparingRecords, sparin
 ghost use Rattle.panel.specs.Panel.{imageLength, asPanel};
 use crate::chip_plan::put_page;
 use crate::chip_plan::put_turn;
-use crate::sparing_page::put_both_changed;
+use crate::sparing_page::put_changed_pages;
 use basics::verdict::Verdict;
 use panel::chips::IMAGE_BYTES;
 use sed1520::bus::RECORD_BYTES;
@@ -128,9 +128,9 @@ fn put_sparing(left: Chip, right: Chip, ram: &[u8], picture: &[u8], output: &mut
     ensures { λ r. ⌜ result r (now (output .exit))
         ≡ putFront (sparingRecords (asPanel left right (now (ram .entry))) (now (picture .entry))) (now (output .entry)) ⌝ }
 {
-    let half = put_both_changed(left, 0, &ram[0..Chip::RAM_WIDTH], picture, output);
+    let half = put_changed_pages(left, 0, &ram[0..Chip::RAM_WIDTH], picture, output);
     let pages = half
-        + put_both_changed(
+        + put_changed_pages(
             right,
             1,
             &ram[Chip::RAM_WIDTH..],

@@ -2,24 +2,25 @@
 // to the front of a lent part of the output buffer.
 ghost use Prim.Native.Nat.{_+_, _-_, _*_, _<_, _≤_};
 ghost use mathlib.Core.Path.{_≡_};
-ghost use mathlib.Core.Bool.{true};
+ghost use mathlib.Core.Bool.{true, false};
 ghost use lib.ListN.{length};
 ghost use Rattle.basics.specs.Verdict.{result};
 ghost use Rattle.sed1520.specs.Memory.{ramLength};
 ghost use Rattle.frame.specs.Frame.{segments};
-ghost use Rattle.repaint.specs.Repaint.{pageLength, pictureLength};
-ghost use Rattle.repaint.specs.Sparing.{differs, columnsRecords, chosenRecords, bothRecords, putFront, nextColumn};
+ghost use Rattle.repaint.specs.Repaint.{writesLength, pageLength, pictureLength};
+ghost use Rattle.repaint.specs.Sparing.{differs, chosenColumns, chosenPage, chipRecords, putFront, nextColumn, runWritten};
 use crate::chip_plan::column_segment;
 use crate::chip_plan::hidden_page;
 use crate::chip_plan::lowest_column;
 use crate::chip_plan::picture_byte;
+use crate::chip_plan::put_column_set;
 use crate::chip_plan::put_page_set;
-use crate::chip_plan::put_run;
+use crate::chip_plan::put_record;
 use sed1520::bus::RECORD_BYTES;
 use sed1520::memory::index;
 use sed1520::registers::Chip;
 
-// Whether the byte of the j-th column, counted from the lowest, of a hidden page differs from the picture's.
+// Whether the byte of shown column j of a hidden page differs from the picture's.
 fn column_differs(chip: Chip, which: u8, ram: &[u8], picture: &[u8], band: u8, j: usize) -> bool
     requires { ⌜ length (now ram) ≡ ramLength ⌝ }
     requires { ⌜ length (now picture) ≡ pictureLength ⌝ }
@@ -31,26 +32,49 @@ fn column_differs(chip: Chip, which: u8, ram: &[u8], picture: &[u8], band: u8, j
     held != picture_byte(picture, which, column_segment(chip, j), band)
 }
 
-// The first column, from one on, that differs or does not, as is asked; or the one past the last.
-fn next_column(
+// The first column, from one on, that differs, or the one past the last.
+fn next_changed(chip: Chip, which: u8, ram: &[u8], picture: &[u8], band: u8, from: usize) -> usize
+    requires { ⌜ length (now ram) ≡ ramLength ⌝ }
+    requires { ⌜ length (now picture) ≡ pictureLength ⌝ }
+    requires { ⌜ band < 2 ⌝ }
+    ensures { λ r. ⌜ r ≡ nextColumn (differs chip which (now (ram .entry)) (now (picture .entry)) band) true from (segments - from) ⌝ }
+{
+    let mut j = from;
+    while j < Chip::SEGMENTS {
+        if column_differs(chip, which, ram, picture, band, j) {
+            return j;
+        }
+        j = j + 1;
+    }
+    j
+}
+
+// The data writes of a run that begins at a column; gives the column past it.
+fn put_run_writes(
     chip: Chip,
     which: u8,
     ram: &[u8],
     picture: &[u8],
     band: u8,
-    differing: bool,
     from: usize,
+    output: &mut [u8],
 ) -> usize
     requires { ⌜ length (now ram) ≡ ramLength ⌝ }
     requires { ⌜ length (now picture) ≡ pictureLength ⌝ }
     requires { ⌜ band < 2 ⌝ }
-    ensures { λ r. ⌜ r ≡ nextColumn (differs chip which (now (ram .entry)) (now (picture .entry)) band) differing from (segments - from) ⌝ }
+    requires { ⌜ from ≤ segments ⌝ }
+    requires { ⌜ 4 * (segments - from) ≤ length (now output) ⌝ }
+    ensures { λ r. ⌜ result r (now (output .exit))
+        ≡ runWritten chip which (now (picture .entry)) band from
+        (nextColumn (differs chip which (now (ram .entry)) (now (picture .entry)) band) false from (segments - from)) (now (output .entry)) ⌝ }
 {
     let mut j = from;
     while j < Chip::SEGMENTS {
-        if column_differs(chip, which, ram, picture, band, j) == differing {
+        if !column_differs(chip, which, ram, picture, band, j) {
             return j;
         }
+        let byte = picture_byte(picture, which, column_segment(chip, j), band);
+        put_record(3, which, byte, &mut output[4 * (j - from)..]);
         j = j + 1;
     }
     j
@@ -70,24 +94,25 @@ fn put_columns(
     requires { ⌜ length (now picture) ≡ pictureLength ⌝ }
     requires { ⌜ band < 2 ⌝ }
     requires { ⌜ first ≡ nextColumn (differs chip which (now ram) (now picture) band) true 0 segments ⌝ }
-    requires { ⌜ 4 * (segments + 1) ≤ length (now output) ⌝ }
+    requires { ⌜ 4 + writesLength ≤ length (now output) ⌝ }
     ensures { λ r. ⌜ result r (now (output .exit))
-        ≡ putFront (columnsRecords chip which (now (picture .entry)) band (differs chip which (now (ram .entry)) (now (picture .entry)) band) 0 segments)
+        ≡ putFront (chosenColumns chip which (now (picture .entry)) band (differs chip which (now (ram .entry)) (now (picture .entry)) band) 0 segments)
         (now (output .entry)) ⌝ }
 {
     let mut at = 0;
     let mut j = first;
     while j < Chip::SEGMENTS {
-        let end = next_column(chip, which, ram, picture, band, false, j);
-        put_run(chip, which, picture, band, j, end - j, &mut output[at..]);
-        at = at + (RECORD_BYTES + RECORD_BYTES * (end - j));
-        j = next_column(chip, which, ram, picture, band, true, end);
+        put_column_set(chip, which, j, &mut output[at..]);
+        at = at + RECORD_BYTES;
+        let end = put_run_writes(chip, which, ram, picture, band, j, &mut output[at..]);
+        at = at + RECORD_BYTES * (end - j);
+        j = next_changed(chip, which, ram, picture, band, end);
     }
     at
 }
 
 // A hidden page: nothing where no column differs, else its number and the columns that do; gives the bytes written.
-fn put_changed(
+fn put_changed_page(
     chip: Chip,
     which: u8,
     ram: &[u8],
@@ -100,10 +125,10 @@ fn put_changed(
     requires { ⌜ band < 2 ⌝ }
     requires { ⌜ pageLength ≤ length (now output) ⌝ }
     ensures { λ r. ⌜ result r (now (output .exit))
-        ≡ putFront (chosenRecords chip which (now (picture .entry)) band (differs chip which (now (ram .entry)) (now (picture .entry)) band))
+        ≡ putFront (chosenPage chip which (now (picture .entry)) band (differs chip which (now (ram .entry)) (now (picture .entry)) band))
         (now (output .entry)) ⌝ }
 {
-    let first = next_column(chip, which, ram, picture, band, true, 0);
+    let first = next_changed(chip, which, ram, picture, band, 0);
     if Chip::SEGMENTS <= first {
         return 0;
     }
@@ -121,7 +146,7 @@ fn put_changed(
 }
 
 // Both hidden pages of a chip; gives the bytes written.
-pub(crate) fn put_both_changed(
+pub(crate) fn put_changed_pages(
     chip: Chip,
     which: u8,
     ram: &[u8],
@@ -132,8 +157,8 @@ pub(crate) fn put_both_changed(
     requires { ⌜ length (now picture) ≡ pictureLength ⌝ }
     requires { ⌜ 2 * pageLength ≤ length (now output) ⌝ }
     ensures { λ r. ⌜ result r (now (output .exit))
-        ≡ putFront (bothRecords chip which (now (ram .entry)) (now (picture .entry))) (now (output .entry)) ⌝ }
+        ≡ putFront (chipRecords chip which (now (ram .entry)) (now (picture .entry))) (now (output .entry)) ⌝ }
 {
-    let first = put_changed(chip, which, ram, picture, 0, output);
-    first + put_changed(chip, which, ram, picture, 1, &mut output[first..])
+    let first = put_changed_page(chip, which, ram, picture, 0, output);
+    first + put_changed_page(chip, which, ram, picture, 1, &mut output[first..])
 }

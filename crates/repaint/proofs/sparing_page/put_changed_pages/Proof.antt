@@ -1,4 +1,4 @@
--- `repaint::sparing_page::put_both_changed` meets its contract: the lower page, then the upper one.
+-- `repaint::sparing_page::put_changed_pages` meets its contract: the lower page, then the upper one.
 use Prim.Native.Nat.{ℕ, _≤_}
 use native.Mathlib.Omega.{arith}
 use mathlib.Core.Path.{ap}
@@ -8,33 +8,33 @@ use lib.ListN.{length-take, length-drop}
 use borrow.Author.Needs.{needs}
 use Rattle.basics.specs.Verdict.{Result}
 use Rattle.sed1520.specs.declared.bus.Record.{Record}
-use Rattle.repaint.specs.Sparing.{differs, chosenRecords}
+use Rattle.repaint.specs.Sparing.{differs, chosenPage}
 use Rattle.repaint.proofs.Bytes.{front-begun, begun-put, begun-front, chosen-bytes}
-use Rattle.repaint.proofs.sparing_page.put_both_changed.Statement.{statement}
-use Rattle.repaint.proofs.sparing_page.put_both_changed.Tie as tie
+use Rattle.repaint.proofs.sparing_page.put_changed_pages.Statement.{statement}
+use Rattle.repaint.proofs.sparing_page.put_changed_pages.Tie as tie
 
 -- the columns of a page that differ
 abbrev test : tie.Start → ℕ → ℕ → Bool
 test start r = let at = start .args in differs (at .chip) (at .which) (at .ram .now) (at .picture .now) r
 
 abbrev page : tie.Start → ℕ → List Record
-page start r = let at = start .args in chosenRecords (at .chip) (at .which) (at .picture .now) r (test start r)
+page start r = let at = start .args in chosenPage (at .chip) (at .which) (at .picture .now) r (test start r)
 
 -- each page takes 252 bytes at most
-first-few : (c : tie.After-put-changed) → c .put-changed .result ≤ 252
+first-few : (c : tie.After-put-changed-page) → c .put-changed-page .result ≤ 252
 first-few c =
     let start = c .before .before .before .before .before in
     let at = start .args in
-    chosen-bytes (at .chip) (at .which) (at .picture .now) 0 (test start 0) (ap (λ (o : Result ℕ (List ℕ)). o .answer) (c .put-changed .ensures))
+    chosen-bytes (at .chip) (at .which) (at .picture .now) 0 (test start 0) (ap (λ (o : Result ℕ (List ℕ)). o .answer) (c .put-changed-page .ensures))
 
-second-few : (c : tie.After-put-changed2) → c .put-changed2 .result ≤ 252
+second-few : (c : tie.After-put-changed-page2) → c .put-changed-page2 .result ≤ 252
 second-few c =
     let start = c .before .before .before .before .before .before .before .before .before in
     let at = start .args in
-    chosen-bytes (at .chip) (at .which) (at .picture .now) 1 (test start 1) (ap (λ (o : Result ℕ (List ℕ)). o .answer) (c .put-changed2 .ensures))
+    chosen-bytes (at .chip) (at .which) (at .picture .now) 1 (test start 1) (ap (λ (o : Result ℕ (List ℕ)). o .answer) (c .put-changed-page2 .ensures))
 
-put-changed-requires-2 : tie.Need-put-changed-requires-2
-put-changed-requires-2 c κs =
+put-changed-page-requires-2 : tie.Need-put-changed-page-requires-2
+put-changed-page-requires-2 c κs =
     let first = c .before .before .before in
     let pre = first .before .before .before .before .before .pre in
     (pre .0, (pre .1 .0, (omega arith, simp (length-take, length-drop) (omega (arith, first-few first, pre .1 .1)))))
@@ -45,17 +45,17 @@ returns c =
     let first = second .before .before .before .before in
     let start = first .before .before .before .before .before in
     begun-front (page start 0 ++ page start 1)
-    (begun-put (page start 0) (page start 1) (front-begun (page start 0) (first .put-changed .ensures)) (second .put-changed2 .ensures))
+    (begun-put (page start 0) (page start 1) (front-begun (page start 0) (first .put-changed-page .ensures)) (second .put-changed-page2 .ensures))
 
-pub put-both-changed-spec : {M : Type 1} → statement M
-put-both-changed-spec =
+pub put-changed-pages-spec : {M : Type 1} → statement M
+put-changed-pages-spec =
     tie.close
     (tie.spec
     (λ c κs. search needs)
     (λ c. omega (arith, first-few (c .before .before)))
     (λ c. omega (arith, first-few (c .before .before)))
     (λ c. search needs)
-    put-changed-requires-2
+    put-changed-page-requires-2
     (λ c. omega (arith, first-few (c .before .before .before .before .before .before), second-few (c .before .before)))
     (λ c. search needs)
     returns)

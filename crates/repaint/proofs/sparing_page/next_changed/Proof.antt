@@ -1,21 +1,22 @@
--- `repaint::sparing_page::next_column` meets its contract: the column looked for is the one from here on.
+-- `repaint::sparing_page::next_changed` meets its contract: the column looked for is the one from here on.
 use Prim.Native.Nat.{suc, _+_, _-_}
 use native.Mathlib.Omega.{arith}
 use mathlib.Core.Path.{_≡_, refl, sym, _∙_}
+use mathlib.Core.Bool.{true}
 use borrow.Author.Needs.{needs}
 use Rattle.frame.specs.Frame.{segments}
 use Rattle.repaint.specs.Sparing.{differs, nextColumn}
 use Rattle.repaint.proofs.ChosenColumns.{next-here, next-later}
-use Rattle.repaint.proofs.sparing_page.next_column.Statement.{statement}
-use Rattle.repaint.proofs.sparing_page.next_column.Tie as tie
+use Rattle.repaint.proofs.sparing_page.next_changed.Statement.{statement}
+use Rattle.repaint.proofs.sparing_page.next_changed.Tie as tie
 
 abbrev Inv-loop : tie.InvT-loop
-Inv-loop chip which ram picture band differing from j₀ j =
+Inv-loop chip which ram picture band from j₀ j =
     let test = differs chip which ram picture band in
-    nextColumn test differing j (segments - j) ≡ nextColumn test differing from (segments - from)
+    nextColumn test true j (segments - j) ≡ nextColumn test true from (segments - from)
 
 abbrev μ-loop : tie.MeasureT-loop
-μ-loop chip which ram picture band differing from j₀ j = segments - j
+μ-loop chip which ram picture band from j₀ j = segments - j
 
 column-differs-requires : tie.Need-column-differs-requires Inv-loop μ-loop
 column-differs-requires c κs =
@@ -29,7 +30,7 @@ returns c =
     let at = loop .before .before .before .args in
     let here = differs (at .chip) (at .which) (at .ram .now) (at .picture .now) (at .band) in
     let more : segments - loop .loop .j ≡ suc (segments - (loop .loop .j + 1)) = omega arith in
-    sym (next-here here (at .differing) (loop .loop .j) more (rw (test .column-differs .ensures) at (c .if1 .taken))) ∙ loop .loop .inv
+    sym (next-here here true (loop .loop .j) more (sym (test .column-differs .ensures) ∙ c .if1 .taken)) ∙ loop .loop .inv
 
 loop-again : tie.Need-loop-again Inv-loop μ-loop
 loop-again c =
@@ -38,7 +39,7 @@ loop-again c =
     let at = loop .before .before .before .args in
     let here = differs (at .chip) (at .which) (at .ram .now) (at .picture .now) (at .band) in
     let more : segments - loop .loop .j ≡ suc (segments - (loop .loop .j + 1)) = omega arith in
-    sym (next-later here (at .differing) (loop .loop .j) more (rw (test .column-differs .ensures) at (c .if1 .left))) ∙ loop .loop .inv
+    sym (next-later here true (loop .loop .j) more (sym (test .column-differs .ensures) ∙ c .if1 .left)) ∙ loop .loop .inv
 
 returns-2 : tie.Need-returns-2 Inv-loop μ-loop
 unfolding nextColumn
@@ -46,8 +47,8 @@ returns-2 c =
     let none : segments - c .before .loop .j ≡ 0 = omega arith in
     rw none at (c .before .loop .inv)
 
-pub next-column-spec : {M : Type 1} → statement M
-next-column-spec =
+pub next-changed-spec : {M : Type 1} → statement M
+next-changed-spec =
     tie.close
     (tie.spec
     Inv-loop

@@ -1,0 +1,130 @@
+-- `repaint::sparing_page::put_run_writes` meets its contract: the writes so far are at the front, and the run ends where it ends from here on.
+use Prim.Native.Nat.{ℕ, suc, _+_, _-_, _*_, _<_, _≤_}
+use native.Mathlib.Omega.{arith}
+use mathlib.Core.Path.{_≡_, refl, sym, ap, _∙_}
+use mathlib.Core.Bool.{Bool, false}
+use mathlib.Core.List.{flatMap}
+use lib.ListN.{length, length-take, length-drop}
+use borrow.Author.Needs.{needs}
+use borrow.Author.Tests.{not-true, not-false}
+use Rattle.basics.specs.Lists.{joined}
+use Rattle.basics.specs.Verdict.{result}
+use Rattle.basics.proofs.Filling.{Begun, begun-none, begun-length}
+use Rattle.frame.specs.Frame.{segments}
+use Rattle.repaint.specs.Repaint.{columnSegment}
+use Rattle.repaint.specs.Sparing.{differs, nextColumn}
+use Rattle.repaint.proofs.Bytes.{written, begun-write}
+use Rattle.repaint.proofs.ChosenColumns.{next-here, next-later}
+use Rattle.repaint.proofs.Small.{segment-small}
+use Rattle.repaint.proofs.sparing_page.put_run_writes.Statement.{statement}
+use Rattle.repaint.proofs.sparing_page.put_run_writes.Tie as tie
+
+abbrev Inv-loop : tie.InvT-loop
+Inv-loop chip which ram picture band from output₀ j₀ output j =
+    let test = differs chip which ram picture band in
+    Begun output₀ (written chip which picture band from (j - from)) (4 * (j - from)) output
+    × ((nextColumn test false j (segments - j) ≡ nextColumn test false from (segments - from))
+    × ((from ≤ j) × ((j ≤ segments) × (length output ≡ length output₀))))
+
+abbrev μ-loop : tie.MeasureT-loop
+μ-loop chip which ram picture band from output₀ j₀ output j = segments - j
+
+-- the columns that differ
+abbrev test : tie.Start Inv-loop μ-loop → ℕ → Bool
+test start = let at = start .args in differs (at .chip) (at .which) (at .ram .now) (at .picture .now) (at .band)
+
+loop-holds : tie.Need-loop-holds Inv-loop μ-loop
+unfolding joined flatMap
+loop-holds c =
+    let start = c .before .before .before in
+    let none : start .args .from - start .args .from ≡ 0 = omega arith in
+    (rw none (begun-none _), (refl, (omega arith, (start .pre .1 .1 .1 .0, refl))))
+
+column-differs-requires : tie.Need-column-differs-requires Inv-loop μ-loop
+column-differs-requires c κs =
+    let pre = c .before .before .before .before .before .pre in
+    (pre .0, (pre .1 .0, (pre .1 .1 .0, omega arith)))
+
+-- one column more from here on
+more : (j : ℕ) → j < segments → segments - j ≡ suc (segments - (j + 1))
+more j h = omega arith
+
+same-length : tie.Need-same-length Inv-loop μ-loop
+same-length c = c .before .before .before .loop .inv .1 .1 .1 .1
+
+returns : tie.Need-returns Inv-loop μ-loop
+returns c =
+    let differ = c .before in
+    let loop = differ .before .before in
+    let start = loop .before .before .before .before in
+    let equal = sym (differ .column-differs .ensures) ∙ not-true (differ .column-differs .result) (c .if1 .taken) in
+    let ends = sym (loop .loop .inv .1 .0) ∙ next-here (test start) false (loop .loop .j) (more (loop .loop .j) (omega arith)) equal in
+    ap (result (loop .loop .j)) (loop .loop .inv .0 .bytes) ∙ rw ends
+
+picture-byte-requires : tie.Need-picture-byte-requires Inv-loop μ-loop
+picture-byte-requires c κs =
+    let start = c .before .before .before .before .before .before .before .before in
+    (start .pre .1 .0, (rw (c .column-segment .ensures) (segment-small (start .args .chip) _ (omega arith)), start .pre .1 .1 .0))
+
+put-record-requires : tie.Need-put-record-requires Inv-loop μ-loop
+put-record-requires c κs = simp (length-take, length-drop) (omega arith)
+
+loop-again : tie.Need-loop-again Inv-loop μ-loop
+loop-again c =
+    let put = c .before .before in
+    let byte = put .before .before in
+    let segment = byte .before in
+    let differ = segment .before .before in
+    let loop = differ .before .before in
+    let start = loop .before .before .before .before in
+    let at = start .args in
+    let j = loop .loop .j in
+    let on = loop .loop .inv .1 .1 .0 in
+    let here : j ≡ at .from + (j - at .from) = omega arith in
+    let next : j - at .from + 1 ≡ j + 1 - at .from = omega arith in
+    let differs = sym (differ .column-differs .ensures) ∙ not-false (differ .column-differs .result) (segment .before .if1 .left) in
+    let put-here =
+    rw next
+    at (begun-write (at .chip) (at .which) (at .picture .now) (at .band) (at .from) (j - at .from) (loop .loop .inv .0)
+    (segment .column-segment .ensures ∙ ap (columnSegment (at .chip)) here) (byte .picture-byte .ensures) (put .put-record .ensures)) in (
+      put-here,
+      (
+        sym (next-later (test start) false j (more j (omega arith)) differs) ∙ loop .loop .inv .1 .0,
+        (omega arith, (omega arith, begun-length put-here (omega (arith, start .pre .1 .1 .1 .1)))),
+      ),
+    )
+
+same-length-2 : tie.Need-same-length-2 Inv-loop μ-loop
+same-length-2 c = c .before .loop .inv .1 .1 .1 .1
+
+returns-2 : tie.Need-returns-2 Inv-loop μ-loop
+unfolding nextColumn
+returns-2 c =
+    let loop = c .before in
+    let none : segments - loop .loop .j ≡ 0 = omega arith in
+    let ends = sym (rw none at (loop .loop .inv .1 .0)) in
+    ap (result (loop .loop .j)) (loop .loop .inv .0 .bytes) ∙ rw ends
+
+pub put-run-writes-spec : {M : Type 1} → statement M
+put-run-writes-spec =
+    tie.close
+    (tie.spec
+    Inv-loop
+    μ-loop
+    loop-holds
+    column-differs-requires
+    same-length
+    returns
+    (λ c κs. omega arith)
+    picture-byte-requires
+    (λ c. omega arith)
+    (λ c. omega arith)
+    (λ c. omega arith)
+    (λ c. omega arith)
+    (λ c. omega arith)
+    put-record-requires
+    (λ c. omega arith)
+    (λ c. omega arith)
+    loop-again
+    same-length-2
+    returns-2)
