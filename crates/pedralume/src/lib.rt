@@ -76,8 +76,8 @@ pub extern "C" fn pedralume_sparing_repaint(
     let both = chips_in(chips);
     let left = both.left;
     let right = both.right;
-    let painted = repaint::sparing_repaint(left, right, ram, picture, output);
-    pack(painted.number, painted.place, 0, 0)
+    let spared = repaint::sparing::sparing_repaint(left, right, ram, picture, output);
+    pack(spared.number, spared.place, 0, 0)
 }
 
 // The records of a trace that changed what the panel shows, on the chips' bytes and the image, into a buffer of entries.

@@ -63,14 +63,13 @@ module _ (c : Chip) (chip : ℕ) (picture : List ℕ) (r from : ℕ) where
       bytes-length (tabulated (columnWrite c chip picture r) from n) ∙ rw (tabulated-length (columnWrite c chip picture r) from n)
 
   -- the writes so far, and the next one in a part lent from there on
-  pub begun-write : (n : ℕ) {old out : List ℕ} → Begun old (written n) (4 * n) out
+  pub begun-write : (n : ℕ) {at : ℕ} {old out : List ℕ} → Begun old (written n) at out
       → {segment byte : ℕ} {part : List ℕ} → segment ≡ columnSegment c (from + n) → byte ≡ pictureByte picture chip segment r
-      → part ≡ recordBytes (sent 3 chip byte) ++ drop 4 (take (length out - 4 * n) (drop (4 * n) out))
-      → Begun old (written (n + 1)) (4 * (n + 1)) (take (4 * n) out ++ (part ++ drop (length out - 4 * n) (drop (4 * n) out)))
+      → part ≡ recordBytes (sent 3 chip byte) ++ drop 4 (take (length out - at) (drop at out))
+      → Begun old (written (n + 1)) (at + 4) (take at out ++ (part ++ drop (length out - at) (drop at out)))
   begun-write n begun is-segment is-byte e =
-      let next : 4 * (n + 1) ≡ 4 * n + 4 = omega arith in
       let e′ = rw (is-byte, is-segment) at e in
-      rw (written-more n, next) (begun-rest begun (recordBytes (columnWrite c chip picture r (from + n))) refl e′)
+      rw (written-more n) (begun-rest begun (recordBytes (columnWrite c chip picture r (from + n))) refl e′)
 
 -- the columns that pass a test, so far, and the run that begins there
 module _ (c : Chip) (chip : ℕ) (picture : List ℕ) (r : ℕ) (test : ℕ → Bool) (j : ℕ) (before : passesBefore test j ≡ false) where
@@ -94,14 +93,14 @@ module _ (c : Chip) (chip : ℕ) (picture : List ℕ) (r : ℕ) (test : ℕ → 
     -- the column is set, and then its writes come
     pub begun-run : {old : List ℕ} {at : ℕ} {now : List ℕ}
         → Begun old (recordsBytes (chosenColumns c chip picture r test 0 j ++ (columnSet c chip j ∷ []))) at now
-        → {part : List ℕ} → part ≡ written c chip picture r j n ++ drop (4 * n) (take (length now - at) (drop at now))
-        → Begun old (recordsBytes (chosenColumns c chip picture r test 0 (j + n))) (at + 4 * n)
+        → {bytes : ℕ} {part : List ℕ} → result bytes part ≡ putFront (tabulated (columnWrite c chip picture r) j n) (take (length now - at) (drop at now))
+        → Begun old (recordsBytes (chosenColumns c chip picture r test 0 (j + n))) (at + bytes)
         (take at now ++ (part ++ drop (length now - at) (drop at now)))
     begun-run begun e =
-        let set = chosenColumns c chip picture r test 0 j ++ (columnSet c chip j ∷ []) in
+        let so-far = chosenColumns c chip picture r test 0 j in
         let writes = tabulated (columnWrite c chip picture r) j n in
-        let all = run-added ∙ sym (append-assoc (chosenColumns c chip picture r test 0 j) (columnSet c chip j ∷ []) writes) in
-        rw (all, bytes-append set writes) (begun-rest begun (recordsBytes writes) (written-length c chip picture r j n) e)
+        let all = run-added ∙ sym (append-assoc so-far (columnSet c chip j ∷ []) writes) in
+        rw all (begun-put (so-far ++ (columnSet c chip j ∷ [])) writes begun e)
 
 -- a page takes 252 bytes at most
 pub chosen-bytes : (c : Chip) (chip : ℕ) (picture : List ℕ) (r : ℕ) (test : ℕ → Bool) {n : ℕ}

@@ -103,8 +103,6 @@ unfoldable pub nextColumn : (ℕ → Bool) → Bool → ℕ → ℕ → ℕ
 nextColumn test value j zero = j
 nextColumn test value j (suc n) = if (Bool·beq (test j) value) j (nextColumn test value (j + 1) n)
 
--- what a function gives that puts the data writes of a run, from column j on, to the front of a buffer with room for them: the column past the run, and
--- the rest of the buffer as it was
-abbrev pub runWritten : Chip → ℕ → List ℕ → ℕ → ℕ → ℕ → List ℕ → Result ℕ (List ℕ)
-runWritten c chip picture r j end buffer =
-    result end (recordsBytes (tabulated (columnWrite c chip picture r) j (end - j)) ++ drop (4 * (end - j)) buffer)
+-- the data writes of a run of columns that pass a test, from column j to the first that does not
+abbrev pub runWrites : Chip → ℕ → List ℕ → ℕ → (ℕ → Bool) → ℕ → List Record
+runWrites c chip picture r test j = tabulated (columnWrite c chip picture r) j (nextColumn test false j (segments - j) - j)

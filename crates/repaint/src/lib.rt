@@ -1,6 +1,6 @@
-// The repaint: the 254 records that bring a 122 by 16 picture to the panel; and the sparing repaint, which writes only the
-// bytes that differ.
+// The repaint: the 254 records that bring a 122 by 16 picture to the panel. The sparing repaint is in sparing.
 mod chip_plan;
+pub mod sparing;
 mod sparing_page;
 
 ghost use Prim.Native.Nat.{_<_, _≤_};
@@ -11,13 +11,9 @@ ghost use Rattle.basics.specs.Verdict.{result};
 ghost use Rattle.sed1520.specs.Records.{recordsBytes};
 ghost use Rattle.repaint.specs.Repaint.{outputLength, pictureLength, repaintRecords, repaintSizesWrong, showsNoRam, wrongLine};
 ghost use Rattle.repaint.specs.Repaint.{chipsVerdict, repaintOf};
-ghost use Rattle.repaint.specs.Sparing.{putFront, sparingRecords, sparingSizesWrong, sparingOf};
-ghost use Rattle.panel.specs.Panel.{imageLength, asPanel};
 use crate::chip_plan::put_page;
 use crate::chip_plan::put_turn;
-use crate::sparing_page::put_changed_pages;
 use basics::verdict::Verdict;
-use panel::chips::IMAGE_BYTES;
 use sed1520::bus::RECORD_BYTES;
 use sed1520::registers::Chip;
 
@@ -37,23 +33,13 @@ const PAGE_RECORDS: usize = 2 + Chip::SEGMENTS;
 const PAGE_BYTES: usize = RECORD_BYTES * PAGE_RECORDS;
 
 // Number 1: a picture that is not 244 bytes, or an output buffer under 1,016.
-fn sizes_wrong(picture: usize, output: usize) -> bool
+pub(crate) fn sizes_wrong(picture: usize, output: usize) -> bool
     ensures { λ r. ⌜ r ≡ repaintSizesWrong picture output ⌝ }
 {
     if picture != PICTURE_BYTES {
         return true;
     }
     output < OUTPUT_BYTES
-}
-
-// Number 1 of a sparing repaint: also an image that is not 640 bytes.
-fn sparing_sizes_wrong(ram: usize, picture: usize, output: usize) -> bool
-    ensures { λ r. ⌜ r ≡ sparingSizesWrong ram picture output ⌝ }
-{
-    if ram != IMAGE_BYTES {
-        return true;
-    }
-    sizes_wrong(picture, output)
 }
 
 // Number 9: display off, or static drive on.
@@ -80,7 +66,7 @@ fn wrong_line(chip: Chip) -> bool
 
 // Numbers 2 and 9 to 12, lowest first, left before right; else done. Built from the last test to the first: each value is
 // the answer from its number on.
-fn chips_verdict(left: Chip, right: Chip) -> Verdict
+pub(crate) fn chips_verdict(left: Chip, right: Chip) -> Verdict
     ensures { λ r. ⌜ r ≡ chipsVerdict left right ⌝ }
 {
     let done = Verdict::new(0, REPAINT_RECORDS as u64);
@@ -116,50 +102,6 @@ pub fn repaint(left: Chip, right: Chip, picture: &[u8], output: &mut [u8]) -> Ve
     let verdict = chips_verdict(left, right);
     if verdict.number == 0 {
         put_records(left, right, picture, output);
-    }
-    verdict
-}
-
-// The records of a sparing repaint, written to the front of the output buffer; gives the bytes that they are.
-fn put_sparing(left: Chip, right: Chip, ram: &[u8], picture: &[u8], output: &mut [u8]) -> usize
-    requires { ⌜ length (now ram) ≡ imageLength ⌝ }
-    requires { ⌜ length (now picture) ≡ pictureLength ⌝ }
-    requires { ⌜ outputLength ≤ length (now output) ⌝ }
-    ensures { λ r. ⌜ result r (now (output .exit))
-        ≡ putFront (sparingRecords (asPanel left right (now (ram .entry))) (now (picture .entry))) (now (output .entry)) ⌝ }
-{
-    let half = put_changed_pages(left, 0, &ram[0..Chip::RAM_WIDTH], picture, output);
-    let pages = half
-        + put_changed_pages(
-            right,
-            1,
-            &ram[Chip::RAM_WIDTH..],
-            picture,
-            &mut output[half..],
-        );
-    put_turn(left, 0, &mut output[pages..]);
-    put_turn(right, 1, &mut output[pages + RECORD_BYTES..]);
-    pages + 2 * RECORD_BYTES
-}
-
-// The sparing repaint of a picture on two chips and their image, into an output buffer of at least 1,016 bytes.
-pub fn sparing_repaint(
-    left: Chip,
-    right: Chip,
-    ram: &[u8],
-    picture: &[u8],
-    output: &mut [u8],
-) -> Verdict
-    ensures { λ r. ⌜ result r (now (output .exit))
-        ≡ sparingOf (asPanel left right (now (ram .entry))) (now (picture .entry)) (now (output .entry)) ⌝ }
-{
-    if sparing_sizes_wrong(ram.len(), picture.len(), output.len()) {
-        return Verdict::new(1, 0);
-    }
-    let verdict = chips_verdict(left, right);
-    if verdict.number == 0 {
-        let bytes = put_sparing(left, right, ram, picture, output);
-        return Verdict::new(0, (bytes / RECORD_BYTES) as u64);
     }
     verdict
 }

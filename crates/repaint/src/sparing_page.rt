@@ -2,13 +2,13 @@
 // to the front of a lent part of the output buffer.
 ghost use Prim.Native.Nat.{_+_, _-_, _*_, _<_, _≤_};
 ghost use mathlib.Core.Path.{_≡_};
-ghost use mathlib.Core.Bool.{true, false};
+ghost use mathlib.Core.Bool.{true};
 ghost use lib.ListN.{length};
 ghost use Rattle.basics.specs.Verdict.{result};
 ghost use Rattle.sed1520.specs.Memory.{ramLength};
 ghost use Rattle.frame.specs.Frame.{segments};
 ghost use Rattle.repaint.specs.Repaint.{writesLength, pageLength, pictureLength};
-ghost use Rattle.repaint.specs.Sparing.{differs, chosenColumns, chosenPage, chipRecords, putFront, nextColumn, runWritten};
+ghost use Rattle.repaint.specs.Sparing.{differs, chosenColumns, chosenPage, chipRecords, putFront, nextColumn, runWrites};
 use crate::chip_plan::column_segment;
 use crate::chip_plan::hidden_page;
 use crate::chip_plan::lowest_column;
@@ -49,7 +49,7 @@ fn next_changed(chip: Chip, which: u8, ram: &[u8], picture: &[u8], band: u8, fro
     j
 }
 
-// The data writes of a run that begins at a column; gives the column past it.
+// The data writes of a run that begins at a column; gives the bytes that they are.
 fn put_run_writes(
     chip: Chip,
     which: u8,
@@ -65,19 +65,21 @@ fn put_run_writes(
     requires { ⌜ from ≤ segments ⌝ }
     requires { ⌜ 4 * (segments - from) ≤ length (now output) ⌝ }
     ensures { λ r. ⌜ result r (now (output .exit))
-        ≡ runWritten chip which (now (picture .entry)) band from
-        (nextColumn (differs chip which (now (ram .entry)) (now (picture .entry)) band) false from (segments - from)) (now (output .entry)) ⌝ }
+        ≡ putFront (runWrites chip which (now (picture .entry)) band (differs chip which (now (ram .entry)) (now (picture .entry)) band) from)
+        (now (output .entry)) ⌝ }
 {
-    let mut j = from;
-    while j < Chip::SEGMENTS {
-        if !column_differs(chip, which, ram, picture, band, j) {
-            return j;
+    let mut bytes = 0;
+    let mut column = from;
+    while column < Chip::SEGMENTS {
+        if !column_differs(chip, which, ram, picture, band, column) {
+            return bytes;
         }
-        let byte = picture_byte(picture, which, column_segment(chip, j), band);
-        put_record(3, which, byte, &mut output[4 * (j - from)..]);
-        j = j + 1;
+        let byte = picture_byte(picture, which, column_segment(chip, column), band);
+        put_record(3, which, byte, &mut output[bytes..]);
+        bytes = bytes + RECORD_BYTES;
+        column = column + 1;
     }
-    j
+    bytes
 }
 
 // The records of the columns that differ, run by run, where the first is known; gives the bytes that they are.
@@ -100,13 +102,13 @@ fn put_columns(
         (now (output .entry)) ⌝ }
 {
     let mut at = 0;
-    let mut j = first;
-    while j < Chip::SEGMENTS {
-        put_column_set(chip, which, j, &mut output[at..]);
+    let mut run = first;
+    while run < Chip::SEGMENTS {
+        put_column_set(chip, which, run, &mut output[at..]);
         at = at + RECORD_BYTES;
-        let end = put_run_writes(chip, which, ram, picture, band, j, &mut output[at..]);
-        at = at + RECORD_BYTES * (end - j);
-        j = next_changed(chip, which, ram, picture, band, end);
+        let bytes = put_run_writes(chip, which, ram, picture, band, run, &mut output[at..]);
+        at = at + bytes;
+        run = next_changed(chip, which, ram, picture, band, run + bytes / RECORD_BYTES);
     }
     at
 }

@@ -41,13 +41,12 @@ loop-again c =
     let loop = segment .before .before in
     let start = loop .before .before .before in
     let at = start .args in
-    let from-zero : loop .loop .j ≡ 0 + loop .loop .j = omega arith in (
-      begun-write (at .chip) (at .which) (at .picture .now) (at .band) 0 (loop .loop .j) (loop .loop .inv .0)
-          (segment .column-segment .ensures ∙ ap (columnSegment (at .chip)) from-zero)
-          (byte .picture-byte .ensures)
-          (put .put-record .ensures),
-      (omega arith, search needs),
-    )
+    let from-zero : loop .loop .j ≡ 0 + loop .loop .j = omega arith in
+    let next : 4 * loop .loop .j + 4 ≡ 4 * (loop .loop .j + 1) = omega arith in
+    let more =
+    begun-write (at .chip) (at .which) (at .picture .now) (at .band) 0 (loop .loop .j) (loop .loop .inv .0)
+    (segment .column-segment .ensures ∙ ap (columnSegment (at .chip)) from-zero) (byte .picture-byte .ensures) (put .put-record .ensures) in
+    (rw next at more, (omega arith, search needs))
 
 same-length : tie.Need-same-length Inv-loop μ-loop
 same-length c = c .before .loop .inv .1 .1

@@ -1,5 +1,5 @@
 -- `repaint::sparing_page::put_columns` meets its contract: the records of the columns so far are at the front, and a run begins at the next.
-use Prim.Native.Nat.{ℕ, _+_, _-_, _*_, _<_, _≤_}
+use Prim.Native.Nat.{ℕ, _+_, _-_, _*_, _/_, _<_, _≤_}
 use native.Mathlib.Omega.{arith}
 use mathlib.Core.Path.{_≡_, refl, sym, ap, _∙_}
 use mathlib.Core.Bool.{Bool, true, false, true≢false}
@@ -8,24 +8,25 @@ use lib.ListN.{length, length-take, length-drop}
 use borrow.Author.Needs.{needs}
 use Rattle.basics.specs.Lists.{joined}
 use Rattle.basics.specs.Verdict.{Result}
+use Rattle.basics.proofs.Lists.{tabulated-length}
 use Rattle.basics.proofs.Filling.{Begun, begun-none}
 use Rattle.sed1520.specs.Records.{recordsBytes}
 use Rattle.frame.specs.Frame.{segments}
 use Rattle.repaint.specs.Sparing.{differs, passesBefore, chosenColumns, nextColumn}
-use Rattle.repaint.specs.Repaint.{columnSet}
+use Rattle.repaint.specs.Repaint.{columnWrite, columnSet}
 use Rattle.repaint.proofs.Bytes.{begun-record, columns-fit, begun-run, begun-front}
 use Rattle.repaint.proofs.RunByRun.{Begins, Goes, run-goes, run-begins, gap-passed, gap-records}
 use Rattle.repaint.proofs.sparing_page.put_columns.Statement.{statement}
 use Rattle.repaint.proofs.sparing_page.put_columns.Tie as tie
 
 abbrev Inv-loop : tie.InvT-loop
-Inv-loop chip which ram picture band first output₀ at₀ j₀ output at j =
+Inv-loop chip which ram picture band first output₀ at₀ run₀ output at run =
     let test = differs chip which ram picture band in
-    Begun output₀ (recordsBytes (chosenColumns chip which picture band test 0 j)) at output
-    × (Begins test j × (length output ≡ length output₀))
+    Begun output₀ (recordsBytes (chosenColumns chip which picture band test 0 run)) at output
+    × (Begins test run × (length output ≡ length output₀))
 
 abbrev μ-loop : tie.MeasureT-loop
-μ-loop chip which ram picture band first output₀ at₀ j₀ output at j = segments - j
+μ-loop chip which ram picture band first output₀ at₀ run₀ output at run = segments - run
 
 -- the columns that differ
 abbrev test : tie.Start Inv-loop μ-loop → ℕ → Bool
@@ -43,15 +44,15 @@ loop-holds c =
     )
 
 -- the bytes so far leave room for the rest of the columns
-fit : (c : tie.In-loop Inv-loop μ-loop) → c .before .loop .at ≤ 4 * c .before .loop .j
+fit : (c : tie.In-loop Inv-loop μ-loop) → c .before .loop .at ≤ 4 * c .before .loop .run
 fit c =
     let loop = c .before in
     let start = loop .before .before .before .before in
     let at = start .args in
-    columns-fit (at .chip) (at .which) (at .picture .now) (at .band) (test start) (loop .loop .j) (loop .loop .inv .1 .0 .unpreceded (omega arith))
+    columns-fit (at .chip) (at .which) (at .picture .now) (at .band) (test start) (loop .loop .run) (loop .loop .inv .1 .0 .unpreceded (omega arith))
     (loop .loop .inv .0)
 
-room : (c : tie.In-loop Inv-loop μ-loop) → c .before .loop .at + 4 + 4 * (segments - c .before .loop .j) ≤ length (c .before .loop .output)
+room : (c : tie.In-loop Inv-loop μ-loop) → c .before .loop .at + 4 + 4 * (segments - c .before .loop .run) ≤ length (c .before .loop .output)
 room c = omega (arith, fit c, c .before .before .before .before .before .pre .1 .1 .1 .1, c .before .loop .inv .1 .1)
 
 put-column-set-requires : tie.Need-put-column-set-requires Inv-loop μ-loop
@@ -72,19 +73,32 @@ turn c = c .before .before .before .before .before .before
 abbrev start : tie.After-put-run-writes Inv-loop μ-loop → tie.Start Inv-loop μ-loop
 start c = turn c .before .before .before .before .before
 
-ends : (c : tie.After-put-run-writes Inv-loop μ-loop) → let j = turn c .before .loop .j in
-    c .put-run-writes .result ≡ nextColumn (test (start c)) false j (segments - j)
-ends c = ap (λ (o : Result ℕ (List ℕ)). o .answer) (c .put-run-writes .ensures)
+abbrev end : tie.After-put-run-writes Inv-loop μ-loop → ℕ
+end c = let run = turn c .before .loop .run in nextColumn (test (start c)) false run (segments - run)
 
-goes : (c : tie.After-put-run-writes Inv-loop μ-loop) → Goes (test (start c)) (turn c .before .loop .j) (c .put-run-writes .result)
-goes c = run-goes (test (start c)) (turn c .before .loop .j) (c .put-run-writes .result) (omega arith) (turn c .before .loop .inv .1 .0) (ends c)
+goes : (c : tie.After-put-run-writes Inv-loop μ-loop) → Goes (test (start c)) (turn c .before .loop .run) (end c)
+goes c = run-goes (test (start c)) (turn c .before .loop .run) (end c) (omega arith) (turn c .before .loop .inv .1 .0) refl
+
+-- the bytes of its writes, and the column past it by them
+bytes-are : (c : tie.After-put-run-writes Inv-loop μ-loop) → c .put-run-writes .result ≡ 4 * (end c - turn c .before .loop .run)
+bytes-are c =
+    let at = start c .args in
+    let run = turn c .before .loop .run in
+    ap (λ (o : Result ℕ (List ℕ)). o .answer) (c .put-run-writes .ensures)
+    ∙ ap (λ n. 4 * n) (tabulated-length (columnWrite (at .chip) (at .which) (at .picture .now) (at .band)) run (end c - run))
+
+past : (c : tie.After-put-run-writes Inv-loop μ-loop) → turn c .before .loop .run + c .put-run-writes .result / 4 ≡ end c
+past c = let run = goes c in omega (arith, bytes-are c, run .longer)
 
 next-changed-requires : tie.Need-next-changed-requires Inv-loop μ-loop
 next-changed-requires c κs = let pre = start (c .before .before) .pre in (pre .0, (pre .1 .0, pre .1 .1 .0))
 
--- the column past the run does not pass, so no run begins there
-ended : (c : tie.After-put-run-writes Inv-loop μ-loop) → let end = c .put-run-writes .result in
-    end < segments → test (start c) end ≡ true → passesBefore (test (start c)) end ≡ false
+-- the next run begins at the next column that passes, which is past the end of this one; there no run begins
+next : (c : tie.After-next-changed Inv-loop μ-loop) → let put = c .before .before .before in
+    c .next-changed .result ≡ nextColumn (test (start put)) true (end put) (segments - end put)
+next c = let put = c .before .before .before in let e = past put in c .next-changed .ensures ∙ rw e
+
+ended : (c : tie.After-put-run-writes Inv-loop μ-loop) → end c < segments → test (start c) (end c) ≡ true → passesBefore (test (start c)) (end c) ≡ false
 ended c h passes = absurd (true≢false (sym passes ∙ goes c .ends h))
 
 loop-less : tie.Need-loop-less Inv-loop μ-loop
@@ -92,8 +106,7 @@ loop-less c =
     let put = c .before .before .before in
     let run = goes put in
     let long = run .longer in
-    let on =
-    gap-passed (test (start put)) (put .put-run-writes .result) (c .next-changed .result) (run .within) (c .next-changed .ensures) (ended put) in
+    let on = gap-passed (test (start put)) (end put) (c .next-changed .result) (run .within) (next c) (ended put) in
     omega arith
 
 loop-again : tie.Need-loop-again Inv-loop μ-loop
@@ -104,22 +117,20 @@ loop-again c =
     let at = start put .args in
     let run = goes put in
     let long = run .longer in
-    let end = put .put-run-writes .result in
-    let n = end - here .loop .j in
-    let all : here .loop .j + n ≡ end = omega arith in
+    let n = end put - here .loop .run in
+    let all : here .loop .run + n ≡ end put = omega arith in
     let one =
-    begun-record (chosenColumns (at .chip) (at .which) (at .picture .now) (at .band) (test (start put)) 0 (here .loop .j))
-    (columnSet (at .chip) (at .which) (here .loop .j)) (here .loop .inv .0) (set .put-column-set .ensures) in
-    let writes = ap (λ (o : Result ℕ (List ℕ)). o .lent) (put .put-run-writes .ensures) in
+    begun-record (chosenColumns (at .chip) (at .which) (at .picture .now) (at .band) (test (start put)) 0 (here .loop .run))
+    (columnSet (at .chip) (at .which) (here .loop .run)) (here .loop .inv .0) (set .put-column-set .ensures) in
     let two =
-    begun-run (at .chip) (at .which) (at .picture .now) (at .band) (test (start put)) (here .loop .j)
-    (here .loop .inv .1 .0 .unpreceded (omega arith)) n (run .passes) (omega arith) one (rw (← ends put) at writes) in
+    begun-run (at .chip) (at .which) (at .picture .now) (at .band) (test (start put)) (here .loop .run)
+    (here .loop .inv .1 .0 .unpreceded (omega arith)) n (run .passes) (omega arith) one (put .put-run-writes .ensures) in
     let gap =
-    gap-records (test (start put)) end (c .next-changed .result) (run .within) (c .next-changed .ensures) (ended put) (at .chip) (at .which)
+    gap-records (test (start put)) (end put) (c .next-changed .result) (run .within) (next c) (ended put) (at .chip) (at .which)
     (at .picture .now) (at .band) in
     let written = rw all at two in (
       rw gap written,
-      (run-begins (test (start put)) end (c .next-changed .result) (run .within) (c .next-changed .ensures) (ended put), search needs),
+      (run-begins (test (start put)) (end put) (c .next-changed .result) (run .within) (next c) (ended put), search needs),
     )
 
 same-length : tie.Need-same-length Inv-loop μ-loop
@@ -131,7 +142,7 @@ returns c =
     let start = loop .before .before .before .before in
     let at = start .args in
     let within = loop .loop .inv .1 .0 .within in
-    let all : loop .loop .j ≡ segments = omega arith in
+    let all : loop .loop .run ≡ segments = omega arith in
     begun-front (chosenColumns (at .chip) (at .which) (at .picture .now) (at .band) (test start) 0 segments) (rw all at (loop .loop .inv .0))
 
 pub put-columns-spec : {M : Type 1} → statement M
@@ -150,9 +161,8 @@ put-columns-spec =
     (λ c. omega (arith, room (c .before .before .before .before)))
     (λ c. omega (arith, room (c .before .before .before .before)))
     put-run-writes-requires
-    (λ c. omega (arith, goes (c .before .before) .longer))
-    (λ c. omega (arith, goes (c .before .before) .within))
-    (λ c. omega (arith, fit (turn (c .before .before)), goes (c .before .before) .within))
+    (λ c. omega (arith, fit (turn (c .before .before)), bytes-are (c .before .before), goes (c .before .before) .within))
+    (λ c. omega (arith, past (c .before .before), goes (c .before .before) .within))
     next-changed-requires
     loop-less
     loop-again

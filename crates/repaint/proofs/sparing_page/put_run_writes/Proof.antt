@@ -7,27 +7,27 @@ use mathlib.Core.List.{flatMap}
 use lib.ListN.{length, length-take, length-drop}
 use borrow.Author.Needs.{needs}
 use borrow.Author.Tests.{not-true, not-false}
-use Rattle.basics.specs.Lists.{joined}
+use Rattle.basics.specs.Lists.{joined, tabulated}
 use Rattle.basics.specs.Verdict.{result}
 use Rattle.basics.proofs.Filling.{Begun, begun-none, begun-length}
 use Rattle.frame.specs.Frame.{segments}
-use Rattle.repaint.specs.Repaint.{columnSegment}
-use Rattle.repaint.specs.Sparing.{differs, nextColumn}
-use Rattle.repaint.proofs.Bytes.{written, begun-write}
+use Rattle.repaint.specs.Repaint.{columnSegment, columnWrite}
+use Rattle.repaint.specs.Sparing.{differs, putFront, nextColumn}
+use Rattle.repaint.proofs.Bytes.{written, written-length, begun-write, begun-front}
 use Rattle.repaint.proofs.ChosenColumns.{next-here, next-later}
 use Rattle.repaint.proofs.Small.{segment-small}
 use Rattle.repaint.proofs.sparing_page.put_run_writes.Statement.{statement}
 use Rattle.repaint.proofs.sparing_page.put_run_writes.Tie as tie
 
 abbrev Inv-loop : tie.InvT-loop
-Inv-loop chip which ram picture band from output₀ j₀ output j =
+Inv-loop chip which ram picture band from output₀ bytes₀ column₀ output bytes column =
     let test = differs chip which ram picture band in
-    Begun output₀ (written chip which picture band from (j - from)) (4 * (j - from)) output
-    × ((nextColumn test false j (segments - j) ≡ nextColumn test false from (segments - from))
-    × ((from ≤ j) × ((j ≤ segments) × (length output ≡ length output₀))))
+    Begun output₀ (written chip which picture band from (column - from)) bytes output
+    × ((nextColumn test false column (segments - column) ≡ nextColumn test false from (segments - from))
+    × ((from ≤ column) × ((column ≤ segments) × (length output ≡ length output₀))))
 
 abbrev μ-loop : tie.MeasureT-loop
-μ-loop chip which ram picture band from output₀ j₀ output j = segments - j
+μ-loop chip which ram picture band from output₀ bytes₀ column₀ output bytes column = segments - column
 
 -- the columns that differ
 abbrev test : tie.Start Inv-loop μ-loop → ℕ → Bool
@@ -45,9 +45,23 @@ column-differs-requires c κs =
     let pre = c .before .before .before .before .before .pre in
     (pre .0, (pre .1 .0, (pre .1 .1 .0, omega arith)))
 
--- one column more from here on
+-- how many bytes the writes so far are, and one column more from here on
+so-far : (l : tie.At-loop Inv-loop μ-loop) → l .loop .bytes ≡ 4 * (l .loop .column - l .before .before .before .before .args .from)
+so-far l =
+    let at = l .before .before .before .before .args in
+    sym (l .loop .inv .0 .size) ∙ written-length (at .chip) (at .which) (at .picture .now) (at .band) (at .from) (l .loop .column - at .from)
+
 more : (j : ℕ) → j < segments → segments - j ≡ suc (segments - (j + 1))
 more j h = omega arith
+
+-- the writes are those up to the column where the run ends
+ended : (l : tie.At-loop Inv-loop μ-loop) → let start = l .before .before .before .before in let at = start .args in
+    nextColumn (test start) false (at .from) (segments - at .from) ≡ l .loop .column → let writes = tabulated (columnWrite (at .chip) (at .which) (at .picture .now) (at .band)) (at .from) in
+    result (l .loop .bytes) (l .loop .output) ≡ putFront (writes (nextColumn (test start) false (at .from) (segments - at .from) - at .from)) (at .output .now)
+ended l ends =
+    let at = l .before .before .before .before .args in
+    begun-front (tabulated (columnWrite (at .chip) (at .which) (at .picture .now) (at .band)) (at .from) (l .loop .column - at .from)) (l .loop .inv .0)
+    ∙ rw ends
 
 same-length : tie.Need-same-length Inv-loop μ-loop
 same-length c = c .before .before .before .loop .inv .1 .1 .1 .1
@@ -58,8 +72,7 @@ returns c =
     let loop = differ .before .before in
     let start = loop .before .before .before .before in
     let equal = sym (differ .column-differs .ensures) ∙ not-true (differ .column-differs .result) (c .if1 .taken) in
-    let ends = sym (loop .loop .inv .1 .0) ∙ next-here (test start) false (loop .loop .j) (more (loop .loop .j) (omega arith)) equal in
-    ap (result (loop .loop .j)) (loop .loop .inv .0 .bytes) ∙ rw ends
+    ended loop (sym (loop .loop .inv .1 .0) ∙ next-here (test start) false (loop .loop .column) (more (loop .loop .column) (omega arith)) equal)
 
 picture-byte-requires : tie.Need-picture-byte-requires Inv-loop μ-loop
 picture-byte-requires c κs =
@@ -67,7 +80,8 @@ picture-byte-requires c κs =
     (start .pre .1 .0, (rw (c .column-segment .ensures) (segment-small (start .args .chip) _ (omega arith)), start .pre .1 .1 .0))
 
 put-record-requires : tie.Need-put-record-requires Inv-loop μ-loop
-put-record-requires c κs = simp (length-take, length-drop) (omega arith)
+put-record-requires c κs =
+    simp (length-take, length-drop) (omega (arith, so-far (c .before .before .before .before .before .before)))
 
 loop-again : tie.Need-loop-again Inv-loop μ-loop
 loop-again c =
@@ -78,7 +92,7 @@ loop-again c =
     let loop = differ .before .before in
     let start = loop .before .before .before .before in
     let at = start .args in
-    let j = loop .loop .j in
+    let j = loop .loop .column in
     let on = loop .loop .inv .1 .1 .0 in
     let here : j ≡ at .from + (j - at .from) = omega arith in
     let next : j - at .from + 1 ≡ j + 1 - at .from = omega arith in
@@ -90,7 +104,7 @@ loop-again c =
       put-here,
       (
         sym (next-later (test start) false j (more j (omega arith)) differs) ∙ loop .loop .inv .1 .0,
-        (omega arith, (omega arith, begun-length put-here (omega (arith, start .pre .1 .1 .1 .1)))),
+        (omega arith, (omega arith, begun-length put-here (omega (arith, start .pre .1 .1 .1 .1, so-far loop)))),
       ),
     )
 
@@ -101,9 +115,8 @@ returns-2 : tie.Need-returns-2 Inv-loop μ-loop
 unfolding nextColumn
 returns-2 c =
     let loop = c .before in
-    let none : segments - loop .loop .j ≡ 0 = omega arith in
-    let ends = sym (rw none at (loop .loop .inv .1 .0)) in
-    ap (result (loop .loop .j)) (loop .loop .inv .0 .bytes) ∙ rw ends
+    let none : segments - loop .loop .column ≡ 0 = omega arith in
+    ended loop (sym (rw none at (loop .loop .inv .1 .0)))
 
 pub put-run-writes-spec : {M : Type 1} → statement M
 put-run-writes-spec =
@@ -117,12 +130,11 @@ put-run-writes-spec =
     returns
     (λ c κs. omega arith)
     picture-byte-requires
-    (λ c. omega arith)
-    (λ c. omega arith)
-    (λ c. omega arith)
-    (λ c. omega arith)
-    (λ c. omega arith)
+    (λ c. omega (arith, so-far (c .before .before .before .before .before)))
+    (λ c. omega (arith, so-far (c .before .before .before .before .before)))
+    (λ c. omega (arith, so-far (c .before .before .before .before .before)))
     put-record-requires
+    (λ c. omega (arith, so-far (c .before .before .before .before .before .before .before .before .before)))
     (λ c. omega arith)
     (λ c. omega arith)
     loop-again

@@ -1,4 +1,4 @@
--- `repaint::sparing_repaint` meets its contract, case by case.
+-- `repaint::sparing::sparing_repaint` meets its contract, case by case.
 use mathlib.Core.Path.{_≡_, sym, _∙_}
 use mathlib.Core.Bool.{false}
 use lib.ListN.{length}
@@ -6,8 +6,8 @@ use Rattle.panel.specs.Panel.{Panel, asPanel}
 use Rattle.repaint.specs.Sparing.{sparingSizesWrong}
 use Rattle.repaint.proofs.SparingCases.{wrong-size, refused, accepted, sparing-sizes-right}
 use borrow.Author.Needs.{needs}
-use Rattle.repaint.proofs.sparing_repaint.Statement.{statement}
-use Rattle.repaint.proofs.sparing_repaint.Tie as tie
+use Rattle.repaint.proofs.sparing.sparing_repaint.Statement.{statement}
+use Rattle.repaint.proofs.sparing.sparing_repaint.Tie as tie
 
 -- the start, from past the test of sizes, and what that test showed
 abbrev start : tie.Else1 → tie.Start

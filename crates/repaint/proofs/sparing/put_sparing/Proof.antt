@@ -1,4 +1,4 @@
--- `repaint::put_sparing` meets its contract, part by part.
+-- `repaint::sparing::put_sparing` meets its contract, part by part.
 use Prim.Native.Nat.{ℕ, _+_, _-_, _≤_}
 use native.Mathlib.Omega.{arith}
 use mathlib.Core.Path.{_≡_, ap}
@@ -12,8 +12,8 @@ use Rattle.panel.specs.Panel.{asPanel, ramAt}
 use Rattle.repaint.specs.Repaint.{turn}
 use Rattle.repaint.specs.Sparing.{chipRecords, sparingRecords, putFront}
 use Rattle.repaint.proofs.Bytes.{front-begun, begun-put, begun-record, begun-front, both-bytes}
-use Rattle.repaint.proofs.put_sparing.Statement.{statement}
-use Rattle.repaint.proofs.put_sparing.Tie as tie
+use Rattle.repaint.proofs.sparing.put_sparing.Statement.{statement}
+use Rattle.repaint.proofs.sparing.put_sparing.Tie as tie
 
 -- each chip takes 504 bytes at most
 left-few : (c : tie.After-put-changed-pages) → c .put-changed-pages .result ≤ 504

@@ -1,11 +1,11 @@
--- `repaint::sparing_sizes_wrong` meets its contract.
+-- `repaint::sparing::sparing_sizes_wrong` meets its contract.
 use native.Mathlib.Omega.{arith}
 use mathlib.Core.Path.{_∙_}
 use borrow.Author.Needs.{needs}
 use borrow.Author.Tests.{eq-eqb, ne-eqb}
 use Rattle.panel.specs.Panel.{imageLength}
-use Rattle.repaint.proofs.sparing_sizes_wrong.Statement.{statement}
-use Rattle.repaint.proofs.sparing_sizes_wrong.Tie as tie
+use Rattle.repaint.proofs.sparing.sparing_sizes_wrong.Statement.{statement}
+use Rattle.repaint.proofs.sparing.sparing_sizes_wrong.Tie as tie
 
 returns : tie.Need-returns
 returns c = rw (ne-eqb (c .before .args .ram) imageLength (omega arith))
