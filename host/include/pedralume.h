@@ -1,14 +1,15 @@
 /*
  * pedralume.h: a proved model of two SED1520 LCD chips behind one 122 by 32 panel.
  *
- *   pedralume_replay      replays a recorded bus trace on both chips
- *   pedralume_frame       gives the pixels that the panel shows
- *   pedralume_repaint     writes the bus records that bring a picture to the panel
- *   pedralume_feed_open   begins a replay of a trace that comes in parts
- *   pedralume_feed_part   takes the next part of it, cut anywhere
- *   pedralume_feed_close  ends it
- *   pedralume_changes     lists the records of a trace that changed what the panel shows
- *   pedralume_version     gives the version of the library
+ *   pedralume_replay           replays a recorded bus trace on both chips
+ *   pedralume_frame            gives the pixels that the panel shows
+ *   pedralume_repaint          writes the bus records that bring a picture to the panel
+ *   pedralume_sparing_repaint  the same, without the bytes that RAM holds already
+ *   pedralume_feed_open        begins a replay of a trace that comes in parts
+ *   pedralume_feed_part        takes the next part of it, cut anywhere
+ *   pedralume_feed_close       ends it
+ *   pedralume_changes          lists the records of a trace that changed what the panel shows
+ *   pedralume_version          gives the version of the library
  *
  * Chip 0 is the left one, chip 1 the right one. The bytes of each buffer are described in docs/FORMATS.md, and
  * host/examples has programs that use the calls; both are installed under share/doc/pedralume. This header is for
@@ -31,12 +32,12 @@
  *
  * WHAT A CALL GIVES BACK
  *
- * Replay, frame, repaint and changes give number + 256 * place + 2^24 * compared + 2^40 * differing. Take it apart
- * with pedralume_number, pedralume_place, pedralume_compared and pedralume_differing; the last two are 0 for all
- * but the replay. The three calls of a feed give number + 256 * place, with a place of 32 bits: take it apart with
- * pedralume_number and pedralume_feed_place alone, and read the counts in the feed's bytes. Number 0 is done. The
- * others, with their places, are in the table of numbers (PEDRALUME_DONE and after), and pedralume_words has words
- * for each.
+ * Replay, frame, both repaints and changes give number + 256 * place + 2^24 * compared + 2^40 * differing. Take it
+ * apart with pedralume_number, pedralume_place, pedralume_compared and pedralume_differing; the last two are 0 for
+ * all but the replay. The three calls of a feed give number + 256 * place, with a place of 32 bits: take it apart
+ * with pedralume_number and pedralume_feed_place alone, and read the counts in the feed's bytes. Number 0 is done.
+ * The others, with their places, are in the table of numbers (PEDRALUME_DONE and after), and pedralume_words has
+ * words for each.
  *
  *
  * EXAMPLE
@@ -79,7 +80,7 @@ extern "C" {
  * change. The number is for #if: 1.2.3 is 10203.
  */
 #define PEDRALUME_VERSION_MAJOR 1
-#define PEDRALUME_VERSION_MINOR 2
+#define PEDRALUME_VERSION_MINOR 3
 #define PEDRALUME_VERSION_PATCH 0
 
 #define PEDRALUME_VERSION_NUMBER \
@@ -98,7 +99,7 @@ extern "C" {
 #define PEDRALUME_HALF_WIDTH 61u
 #define PEDRALUME_PICTURE_HEIGHT 16u
 
-/* Sizes in bytes; the repaint's also in records. */
+/* Sizes in bytes; the repaint's also in records. A sparing repaint has at most as many. */
 #define PEDRALUME_CHIP_BYTES 12u
 #define PEDRALUME_CHIPS_BYTES 24u
 #define PEDRALUME_RAM_BYTES 640u
@@ -248,6 +249,28 @@ uint64_t pedralume_frame(const uint8_t *chips, size_t chips_len,
 uint64_t pedralume_repaint(const uint8_t *chips, size_t chips_len,
                            const uint8_t *picture, size_t picture_len,
                            uint8_t *output, size_t output_len);
+
+/*
+ * Writes the bus records of a sparing repaint, which leaves out what the hidden pages hold already: a page that is
+ * as the picture has it is passed over, and in another one only the bytes that differ are written, run by run. It
+ * sends nothing.
+ *
+ * It takes chips (24 bytes) and RAM (640 bytes) as they are when the first record is sent, picture (244 bytes) and
+ * output (1,016 bytes or more, whatever is left out).
+ * It gives the number of records as place, from 2 to 254.
+ * It refuses by 1 and 2, and chips that are not ready by 9 to 12.
+ * It leaves 4 bytes of output written for each record and the rest as it was; refused, it leaves all of output as
+ * it came.
+ *
+ * Sent in order with nobody else on the bus, each record is accepted and leaves both chips ready. All but the last
+ * two change nothing that is shown; the last but one brings the left half to the picture, the last the right half,
+ * with rows 16 to 31 dark. Sent whole, it leaves the RAM that a repaint leaves. It may be given up after any record
+ * as a repaint may, and either of them may follow, the sparing one made with the RAM as it is then.
+ */
+uint64_t pedralume_sparing_repaint(const uint8_t *chips, size_t chips_len,
+                                   const uint8_t *ram, size_t ram_len,
+                                   const uint8_t *picture, size_t picture_len,
+                                   uint8_t *output, size_t output_len);
 
 /*
  * Begins a replay of a trace that comes in parts.

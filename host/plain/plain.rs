@@ -1,8 +1,10 @@
-//! Replay, frame, repaint, feed and changes, written plainly from documents 01 and 02 and, but for
-//! changes, for speed. The 48 bytes of a feed and the packing of what the feed's calls give back are
+//! Replay, frame, both repaints, feed and changes, written plainly from documents 01 and 02 and, but
+//! for changes, for speed. The 48 bytes of a feed and the packing of what the feed's calls give back are
 //! in neither paper: they are the project's own. It is what the archive is compared with and timed
 //! against, so it shares no code with it.
 #![forbid(unsafe_code)]
+
+use std::ops::Range;
 
 const CHIP: usize = 12;
 const HALF_RAM: usize = 320;
@@ -298,15 +300,50 @@ fn check_ready(state: &[Chip; 2]) -> Result<(), Outcome> {
     Ok(())
 }
 
-/// The 63 records that bring one band of the picture to one hidden page of a chip.
-fn paint_page(records: &mut [[u8; 4]], chip: &Chip, which: u8, page: u8, pixels: &[u8]) {
-    let column = if chip.reverse { 19 } else { 0 };
-    records[0] = [2, which, 0xB8 + page, 0];
-    records[1] = [2, which, column, 0];
-    for (n, record) in records[2..].iter_mut().enumerate() {
-        let segment = if chip.reverse { SEGMENTS - 1 - n } else { n };
-        *record = [3, which, pixels[segment], 0];
+/// A hidden page of a chip, and the band of the picture that goes there.
+struct Canvas<'a> {
+    chip: &'a Chip,
+    which: u8,
+    page: u8,
+    pixels: &'a [u8],
+}
+
+impl<'a> Canvas<'a> {
+    /// Canvas n of the four, in the order in which they are painted.
+    fn at(n: usize, state: &'a [Chip; 2], picture: &'a [[u8; WIDTH]; 2]) -> Self {
+        let (which, row) = (n / 2, n % 2);
+        let chip = &state[which];
+        let hidden = if chip.start_line == 0 { 2 } else { 0 };
+        let pixels = &picture[row][which * SEGMENTS..][..SEGMENTS];
+        Canvas { chip, which: which as u8, page: hidden + row as u8, pixels }
     }
+
+    /// The lowest of the 61 columns that are shown.
+    fn first_column(&self) -> u8 {
+        if self.chip.reverse { 19 } else { 0 }
+    }
+
+    /// The picture's byte for the n-th of them.
+    fn pixel(&self, n: usize) -> u8 {
+        self.pixels[if self.chip.reverse { SEGMENTS - 1 - n } else { n }]
+    }
+
+    fn set_page(&self) -> [u8; 4] {
+        [2, self.which, 0xB8 + self.page, 0]
+    }
+
+    fn set_column(&self, n: usize) -> [u8; 4] {
+        [2, self.which, self.first_column() + n as u8, 0]
+    }
+
+    fn write(&self, n: usize) -> [u8; 4] {
+        [3, self.which, self.pixel(n), 0]
+    }
+}
+
+/// The two records that turn the start lines.
+fn turns(state: &[Chip; 2]) -> [[u8; 4]; 2] {
+    [0, 1].map(|which| [2, which as u8, 0xC0 + (16 - state[which].start_line), 0])
 }
 
 fn try_repaint(chips: &[u8], picture: &[u8], output: &mut [u8]) -> Result<Outcome, Outcome> {
@@ -319,18 +356,70 @@ fn try_repaint(chips: &[u8], picture: &[u8], output: &mut [u8]) -> Result<Outcom
     let state = decode_chips(chips)?;
     check_ready(&state)?;
 
-    let (pages, turns) = records.split_at_mut(4 * PAGE_RECORDS);
+    let (pages, last) = records.split_at_mut(4 * PAGE_RECORDS);
     for (n, page_records) in pages.chunks_exact_mut(PAGE_RECORDS).enumerate() {
-        let (which, row) = (n / 2, n % 2);
-        let chip = &state[which];
-        let hidden = if chip.start_line == 0 { 2 } else { 0 };
-        let pixels = &picture[row][which * SEGMENTS..][..SEGMENTS];
-        paint_page(page_records, chip, which as u8, hidden + row as u8, pixels);
+        let canvas = Canvas::at(n, &state, picture);
+        page_records[0] = canvas.set_page();
+        page_records[1] = canvas.set_column(0);
+        for (n, record) in page_records[2..].iter_mut().enumerate() {
+            *record = canvas.write(n);
+        }
     }
-    for (which, chip) in state.iter().enumerate() {
-        turns[which] = [2, which as u8, 0xC0 + (16 - chip.start_line), 0];
-    }
+    last.copy_from_slice(&turns(&state));
     Ok(Outcome::new(0, REPAINT_RECORDS))
+}
+
+/// Bit n is set where the n-th shown column of the page does not hold the picture's byte.
+fn differences(canvas: &Canvas, ram: &Halves) -> u64 {
+    let page = usize::from(canvas.page) * usize::from(COLUMNS) + usize::from(canvas.first_column());
+    let held = &ram[usize::from(canvas.which)][page..][..SEGMENTS];
+    let mut bits = 0;
+    for (n, &byte) in held.iter().enumerate() {
+        bits |= u64::from(byte != canvas.pixel(n)) << n;
+    }
+    bits
+}
+
+/// The longest runs of set bits, the lowest first. At most 61 bits are set, so no shift is over 63.
+fn runs_of(mut bits: u64) -> Vec<Range<usize>> {
+    let mut runs = Vec::new();
+    let mut end = 0;
+    while bits != 0 {
+        let start = end + bits.trailing_zeros() as usize;
+        bits >>= bits.trailing_zeros();
+        end = start + bits.trailing_ones() as usize;
+        bits >>= bits.trailing_ones();
+        runs.push(start..end);
+    }
+    runs
+}
+
+fn try_sparing(chips: &[u8], ram: &[u8], picture: &[u8], output: &mut [u8]) -> Result<Outcome, Outcome> {
+    let (Some(chips), Some(ram), Some(picture)) = (table(chips), table(ram), table(picture)) else {
+        return Err(Outcome::new(1, 0));
+    };
+    let room = output.as_chunks_mut().0;
+    if room.len() < REPAINT_RECORDS {
+        return Err(Outcome::new(1, 0));
+    }
+    let state = decode_chips(chips)?;
+    check_ready(&state)?;
+
+    let mut records = Vec::with_capacity(REPAINT_RECORDS);
+    for n in 0..4 {
+        let canvas = Canvas::at(n, &state, picture);
+        let runs = runs_of(differences(&canvas, ram));
+        if !runs.is_empty() {
+            records.push(canvas.set_page());
+        }
+        for run in runs {
+            records.push(canvas.set_column(run.start));
+            records.extend(run.map(|n| canvas.write(n)));
+        }
+    }
+    records.extend(turns(&state));
+    room[..records.len()].copy_from_slice(&records);
+    Ok(Outcome::new(0, records.len()))
 }
 
 /// All records taken, or the refusal of the first that is not.
@@ -571,6 +660,10 @@ pub fn frame(chips: &[u8], ram: &[u8], frame: &mut [u8]) -> u64 {
 
 pub fn repaint(chips: &[u8], picture: &[u8], output: &mut [u8]) -> u64 {
     pack(try_repaint(chips, picture, output))
+}
+
+pub fn sparing_repaint(chips: &[u8], ram: &[u8], picture: &[u8], output: &mut [u8]) -> u64 {
+    pack(try_sparing(chips, ram, picture, output))
 }
 
 pub fn feed_open(feed: &mut [u8], chips: &[u8]) -> u64 {

@@ -85,6 +85,30 @@ pub unsafe extern "C" fn repaint(
 
 /// # Safety
 /// As for `replay`.
+#[cfg_attr(as_pedralume, unsafe(export_name = "pedralume_sparing_repaint"))]
+#[cfg_attr(not(as_pedralume), unsafe(export_name = "plain_sparing_repaint"))]
+pub unsafe extern "C" fn sparing_repaint(
+    chips: *const u8,
+    chips_len: usize,
+    ram: *const u8,
+    ram_len: usize,
+    picture: *const u8,
+    picture_len: usize,
+    output: *mut u8,
+    output_len: usize,
+) -> u64 {
+    unsafe {
+        plain::sparing_repaint(
+            lent(chips, chips_len),
+            lent(ram, ram_len),
+            lent(picture, picture_len),
+            lent_mut(output, output_len),
+        )
+    }
+}
+
+/// # Safety
+/// As for `replay`.
 #[cfg_attr(as_pedralume, unsafe(export_name = "pedralume_feed_open"))]
 #[cfg_attr(not(as_pedralume), unsafe(export_name = "plain_feed_open"))]
 pub unsafe extern "C" fn feed_open(feed: *mut u8, feed_len: usize, chips: *const u8, chips_len: usize) -> u64 {
@@ -151,5 +175,5 @@ pub unsafe extern "C" fn changes(
 #[cfg(as_pedralume)]
 #[unsafe(export_name = "pedralume_version")]
 pub extern "C" fn version() -> u64 {
-    10200
+    10300
 }
