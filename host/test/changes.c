@@ -61,8 +61,8 @@ static uint64_t list(struct view *v, const struct trace *t, size_t room)
 static void stays_by(const struct view *given, const struct trace *t, struct lengths len, unsigned number, size_t place, int line)
 {
     struct view v = *given;
-    check_answer(list_lengths(&v, t, len), answer_of(number, place, 0, 0), line);
-    check(same_view(&v, given), line, "every buffer is as it came");
+    check_answer(list_lengths(&v, t, len), answer_of(number, place, 0, 0), __FILE__, line);
+    check(same_view(&v, given), __FILE__, line, "every buffer is as it came");
 }
 
 #define STAYS(given, t, chips, ram, trace, entries, number, place) \
@@ -90,8 +90,8 @@ static void done_by(const struct view *given, const struct trace *t, const struc
     struct view v = *given, want = *given;
     for (size_t i = 0; i < count; i++)
         put_entry(want.entries + ENTRY * i, due[i]);
-    check_answer(list(&v, t, room), answer_of(0, count, 0, 0), line);
-    check(same_view(&v, &want), line, "the entries are those due, and all else is as it came");
+    check_answer(list(&v, t, room), answer_of(0, count, 0, 0), __FILE__, line);
+    check(same_view(&v, &want), __FILE__, line, "the entries are those due, and all else is as it came");
 }
 
 /* At exact room and more; then 15 with less, down to none. */

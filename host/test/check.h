@@ -1,6 +1,6 @@
 /*
- * The tests of each call judge with this: checks that are counted and reported by the line they stand in,
- * columns to be given, and document 01's pixels. The program names itself in PROGRAM first, by the name of its
+ * The tests of each call judge with this: checks that are counted and reported by the file and line they stand
+ * in, columns to be given, and document 01's pixels. The program names itself in PROGRAM first, by the name of its
  * file. All is static, as in support.h.
  */
 #ifndef CHECK_H
@@ -10,30 +10,30 @@
 
 static unsigned checks, failures;
 
-static inline void check(bool good, int line, const char *what)
+static inline void check(bool good, const char *file, int line, const char *what)
 {
     checks++;
     if (good)
         return;
     failures++;
-    printf(PROGRAM ".c:%d: failed: %s\n", line, what);
+    printf("%s:%d: failed: %s\n", file, line, what);
 }
 
-static inline void check_answer(uint64_t got, uint64_t want, int line)
+static inline void check_answer(uint64_t got, uint64_t want, const char *file, int line)
 {
     checks++;
     if (got == want)
         return;
     failures++;
-    printf(PROGRAM ".c:%d: failed:", line);
+    printf("%s:%d: failed:", file, line);
     print_answer("want", want);
     print_answer("got", got);
     printf("\n");
 }
 
-#define CHECK(condition) check((condition), __LINE__, #condition)
+#define CHECK(condition) check((condition), __FILE__, __LINE__, #condition)
 #define CHECK_ANSWER(got, number, place, compared, differing) \
-    check_answer((got), answer_of((number), (place), (compared), (differing)), __LINE__)
+    check_answer((got), answer_of((number), (place), (compared), (differing)), __FILE__, __LINE__)
 
 /* ---- given columns ---- */
 

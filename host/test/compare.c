@@ -16,9 +16,9 @@ enum { NUMBERS = 16 };
 
 /*
  * What one call is lent. Replay: chips, RAM, trace, answers. Frame and repaint: chips, source, output.
- * Changes: chips, RAM, trace, entries.
+ * Changes: chips, RAM, trace, entries. Sparing repaint: chips, RAM, picture, records.
  */
-enum { PARTS = 4, PART_TRACE = 2, PART_ANSWERS = 3, PART_OUTPUT = 2, PART_ENTRIES = 3 };
+enum { PARTS = 4, PART_TRACE = 2, PART_ANSWERS = 3, PART_OUTPUT = 2, PART_ENTRIES = 3, PART_PICTURE = 2, PART_RECORDS = 3 };
 
 struct bundle {
     struct lent part[PARTS];
@@ -41,10 +41,11 @@ static void free_bundle(struct bundle *b, size_t parts)
 struct contest {
     const char *name;
     size_t parts;
+    size_t each;                            /* bytes of the last part for each of the place */
     bool constant[PARTS];
     replay_call *replay[2];                 /* archive, plain; either these two */
     paint_call *paint[2];                   /* or these */
-    changes_call *changes[2];               /* or these */
+    changes_call *changes[2];               /* or these, also of the sparing repaint */
     const char *part_name[PARTS];
 };
 
@@ -94,7 +95,7 @@ static bool leaves_all(uint64_t answer)
     return number != PEDRALUME_DONE && !refuses_record(number);
 }
 
-/* Of changes all that refuse do. */
+/* Of changes and the sparing repaint all that refuse do. */
 static bool all_stays(const struct contest *c, uint64_t answer)
 {
     return leaves_all(answer) || (c->changes[0] != NULL && pedralume_number(answer) != PEDRALUME_DONE);
@@ -115,13 +116,11 @@ static void check_parts(const struct contest *c, unsigned long at, const struct 
     }
 }
 
-/* Bytes past the answers given, past the 254 records or past the entries stay. */
+/* Bytes past the answers given, past the records written or past the entries stay. */
 static void check_tail(const struct contest *c, unsigned long at, const struct bundle *given,
                        const struct bundle *archive, uint64_t answer)
 {
-    size_t part = c->replay[0] != NULL ? PART_ANSWERS : c->changes[0] != NULL ? PART_ENTRIES : PART_OUTPUT;
-    size_t each = c->replay[0] != NULL ? 2 : c->changes[0] != NULL ? ENTRY : RECORD;
-    size_t used = pedralume_place(answer) * each;
+    size_t part = c->parts - 1, used = pedralume_place(answer) * c->each;
     const struct lent *a = &archive->part[part], *g = &given->part[part];
     if (all_stays(c, answer) || used >= a->len)
         return;
@@ -222,7 +221,7 @@ static void check_refused_columns(bool tried[COLUMN_SETS][2])
 }
 
 static const struct contest replay_contest = {
-    "replay", 4, { false, false, true, false }, { pedralume_replay, plain_replay }, { NULL, NULL }, { NULL, NULL },
+    "replay", 4, 2, { false, false, true, false }, { pedralume_replay, plain_replay }, { NULL, NULL }, { NULL, NULL },
     { "chips", "RAM", "trace", "answers" }
 };
 
@@ -355,7 +354,7 @@ static void check_settings(bool tried[2][SETTINGS])
 static void compare_frames(uint64_t seed, unsigned long cases)
 {
     static const struct contest contest = {
-        "frame", 3, { true, true, false }, { NULL, NULL }, { pedralume_frame, plain_frame }, { NULL, NULL },
+        "frame", 3, 1, { true, true, false }, { NULL, NULL }, { pedralume_frame, plain_frame }, { NULL, NULL },
         { "chips", "RAM", "frame", "" }
     };
     static const bool due[NUMBERS] = { 1, 1, 1 };
@@ -398,14 +397,20 @@ static void unready_chip(struct rng *g, uint8_t *chip)
         }
 }
 
-static void draw_repaint(struct rng *g, struct bundle *b)
+/* Mostly ready. */
+static void draw_repaint_chips(struct rng *g, uint8_t *chips)
 {
-    uint8_t chips[CHIPS], picture[PICTURE], output[REPAINT];
     for (unsigned chip = 0; chip < 2; chip++) {
         draw_ready_chip(g, chips + CHIP * chip);
         if (one_in(g, 4))
             unready_chip(g, chips + CHIP * chip);
     }
+}
+
+static void draw_repaint(struct rng *g, struct bundle *b)
+{
+    uint8_t chips[CHIPS], picture[PICTURE], output[REPAINT];
+    draw_repaint_chips(g, chips);
     random_bytes(g, picture, PICTURE);
     random_bytes(g, output, REPAINT);
     if (one_in(g, 12))
@@ -418,7 +423,7 @@ static void draw_repaint(struct rng *g, struct bundle *b)
 static void compare_repaints(uint64_t seed, unsigned long cases)
 {
     static const struct contest contest = {
-        "repaint", 3, { true, true, false }, { NULL, NULL }, { pedralume_repaint, plain_repaint }, { NULL, NULL },
+        "repaint", 3, RECORD, { true, true, false }, { NULL, NULL }, { pedralume_repaint, plain_repaint }, { NULL, NULL },
         { "chips", "picture", "output", "" }
     };
     static const bool due[NUMBERS] = { 1, 1, 1, 0, 0, 0, 0, 0, 0, 1, 1, 1, 1 };
@@ -431,6 +436,63 @@ static void compare_repaints(uint64_t seed, unsigned long cases)
         free_bundle(&given, contest.parts);
     }
     report(&contest, &tally, due);
+}
+
+/* ---- random sparing repaints ---- */
+
+/* The hidden pages are mostly near the picture. */
+static void draw_sparing(struct rng *g, struct bundle *b)
+{
+    uint8_t chips[CHIPS], ram[RAM], picture[PICTURE], output[REPAINT], differences[PICTURE];
+    draw_repaint_chips(g, chips);
+    random_bytes(g, ram, RAM);
+    random_bytes(g, picture, PICTURE);
+    random_bytes(g, output, REPAINT);
+    draw_differences(g, differences);
+    if (!one_in(g, 8))
+        hide_picture(chips, ram, picture, differences);
+    if (one_in(g, 12))
+        spoil_chips(g, chips);
+    b->part[0] = lend_padded(g, chips, CHIPS, one_in(g, 40) ? wrong_length(g, CHIPS, 64) : CHIPS);
+    b->part[1] = lend_padded(g, ram, RAM, one_in(g, 40) ? wrong_length(g, RAM, 1300) : RAM);
+    b->part[PART_PICTURE] = lend_padded(g, picture, PICTURE, draw_picture_length(g));
+    b->part[PART_RECORDS] = lend_padded(g, output, REPAINT, draw_output_length(g));
+}
+
+/* By how many records those that were done have: nothing, one byte or all to write, and what lies between. */
+static void report_sparing(const unsigned long with[REPAINT_RECORDS + 1])
+{
+    unsigned long others = 0;
+    for (unsigned n = 6; n < REPAINT_RECORDS; n++)
+        others += with[n];
+    printf("compare: sparing repaint: with 2 records %lu, with 5 %lu, with 254 %lu, with others %lu\n", with[2], with[5],
+           with[REPAINT_RECORDS], others);
+    must_occur(with[2], "sparing repaint, records", 2);
+    must_occur(with[5], "sparing repaint, records", 5);
+    must_occur(with[REPAINT_RECORDS], "sparing repaint, records", REPAINT_RECORDS);
+    must_occur(others, "sparing repaint, records over", 5);
+}
+
+static void compare_sparing(uint64_t seed, unsigned long cases)
+{
+    static const struct contest contest = {
+        "sparing repaint", 4, RECORD, { true, true, true, false }, { NULL, NULL }, { NULL, NULL },
+        { pedralume_sparing_repaint, plain_sparing_repaint }, { "chips", "RAM", "picture", "records" }
+    };
+    static const bool due[NUMBERS] = { 1, 1, 1, 0, 0, 0, 0, 0, 0, 1, 1, 1, 1 };
+    unsigned long with[REPAINT_RECORDS + 1] = { 0 };
+    struct tally tally = { 0 };
+    for (unsigned long at = 0; at < cases; at++) {
+        struct rng g = rng_for(seed, 13, at);
+        struct bundle given;
+        draw_sparing(&g, &given);
+        uint64_t answer = contend(&contest, at, &given, &tally);
+        if (pedralume_number(answer) == PEDRALUME_DONE && pedralume_place(answer) <= REPAINT_RECORDS)
+            with[pedralume_place(answer)]++;
+        free_bundle(&given, contest.parts);
+    }
+    report(&contest, &tally, due);
+    report_sparing(with);
 }
 
 /* ---- random changes ---- */
@@ -577,7 +639,7 @@ static void note_changes(struct listing *l, const struct bundle *given, uint64_t
 }
 
 static const struct contest changes_contest = {
-    "changes", 4, { true, true, true, false }, { NULL, NULL }, { NULL, NULL }, { pedralume_changes, plain_changes },
+    "changes", 4, ENTRY, { true, true, true, false }, { NULL, NULL }, { NULL, NULL }, { pedralume_changes, plain_changes },
     { "chips", "RAM", "trace", "entries" }
 };
 
@@ -664,6 +726,7 @@ int main(int argc, char **argv)
     compare_marks(seed, cases);
     compare_frames(seed, cases);
     compare_repaints(seed, cases);
+    compare_sparing(seed, cases);
     compare_changes(seed, cases);
     compare_runs(seed, cases);
     printf("compare: %u failed\n", failures);

@@ -71,7 +71,7 @@ static void check_part_stays(const struct intake *given, const uint8_t *bytes, s
     static struct intake n;
     n = *given;
     check_feed_answer(take_by(&n, bytes, len), number, place, line);
-    check(same_intake(&n, given), line, "the part changes nothing");
+    check(same_intake(&n, given), __FILE__, line, "the part changes nothing");
 }
 
 static void check_close_stays(const struct intake *given, size_t len, unsigned number, uint64_t place, int line)
@@ -79,7 +79,7 @@ static void check_close_stays(const struct intake *given, size_t len, unsigned n
     static struct intake n;
     n = *given;
     check_feed_answer(pedralume_feed_close(n.feed, len), number, place, line);
-    check(same_intake(&n, given), line, "the close changes nothing");
+    check(same_intake(&n, given), __FILE__, line, "the close changes nothing");
 }
 
 #define PART_STAYS(given, bytes, len, number, place) check_part_stays((given), (bytes), (len), (number), (place), __LINE__)

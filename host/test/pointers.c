@@ -9,7 +9,7 @@
 enum { BUFFERS = 4, LONGEST = 2048, OFFSETS = 16, RECORDS = 40 };
 
 /* The calls; each is a job. */
-enum { REPLAY, DRAW, REPAINTED, OPEN, PART, CLOSE, LIST, JOBS };
+enum { REPLAY, DRAW, REPAINTED, SPARED, OPEN, PART, CLOSE, LIST, JOBS };
 
 /* The bit of a buffer among those that are chosen. */
 #define BUFFER(i) (1u << (i))
@@ -27,6 +27,7 @@ static uint64_t call(unsigned job, uint8_t *const at[BUFFERS], const size_t leng
     case REPLAY: return pedralume_replay(at[0], length[0], at[1], length[1], at[2], length[2], at[3], length[3]);
     case DRAW: return pedralume_frame(at[0], length[0], at[1], length[1], at[2], length[2]);
     case REPAINTED: return pedralume_repaint(at[0], length[0], at[1], length[1], at[2], length[2]);
+    case SPARED: return pedralume_sparing_repaint(at[0], length[0], at[1], length[1], at[2], length[2], at[3], length[3]);
     case OPEN: return pedralume_feed_open(at[0], length[0], at[1], length[1]);
     case PART: return pedralume_feed_part(at[0], length[0], at[1], length[1], at[2], length[2], at[3], length[3]);
     case CLOSE: return pedralume_feed_close(at[0], length[0]);
@@ -35,9 +36,10 @@ static uint64_t call(unsigned job, uint8_t *const at[BUFFERS], const size_t leng
 }
 
 /* How many buffers each call has, and their lengths where it is done. */
-static const unsigned buffers[JOBS] = { 4, 3, 3, 2, 4, 1, 4 };
+static const unsigned buffers[JOBS] = { 4, 3, 3, 4, 2, 4, 1, 4 };
 static const size_t lengths[JOBS][BUFFERS] = {
-    { CHIPS, RAM, RECORDS * RECORD, 2 * RECORDS }, { CHIPS, RAM, FRAME }, { CHIPS, PICTURE, REPAINT }, { FEED, CHIPS },
+    { CHIPS, RAM, RECORDS * RECORD, 2 * RECORDS }, { CHIPS, RAM, FRAME }, { CHIPS, PICTURE, REPAINT },
+    { CHIPS, RAM, PICTURE, REPAINT }, { FEED, CHIPS },
     { FEED, RAM, RECORDS * RECORD, 2 * RECORDS }, { FEED }, { CHIPS, RAM, RECORDS * RECORD, RECORDS * ENTRY },
 };
 
@@ -60,6 +62,8 @@ static void lend(struct lent *l, unsigned job, size_t offset)
         random_bytes(&g, l->bytes[1] + offset, l->length[1]);
     if (job == REPLAY || job == PART || job == LIST)
         memcpy(l->bytes[2] + offset, t.bytes, t.len);
+    if (job == SPARED)
+        random_bytes(&g, l->bytes[2] + offset, PICTURE);
 }
 
 static uint64_t call_at(unsigned job, struct lent *l, size_t offset, unsigned null)

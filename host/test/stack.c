@@ -20,6 +20,7 @@ static void nothing(void) {}
 static void replay(void) { pedralume_replay(chips, CHIPS, ram, RAM, trace.bytes, trace.len, answers, sizeof answers); }
 static void show(void) { pedralume_frame(chips, CHIPS, ram, RAM, frame, FRAME); }
 static void repaint(void) { pedralume_repaint(ready, CHIPS, picture, PICTURE, output, REPAINT); }
+static void sparing(void) { pedralume_sparing_repaint(ready, CHIPS, ram, RAM, picture, PICTURE, output, REPAINT); }
 static void feed_open(void) { pedralume_feed_open(feed, FEED, chips, CHIPS); }
 static void feed_first(void) { pedralume_feed_part(feed, FEED, ram, RAM, trace.bytes, 5, answers, sizeof answers); }
 static void feed_rest(void) { pedralume_feed_part(feed, FEED, ram, RAM, trace.bytes + 5, trace.len - 5, answers, sizeof answers); }
@@ -29,7 +30,8 @@ static void changes(void) { pedralume_changes(chips, CHIPS, ram, RAM, trace.byte
 
 /* In this order: the replay moves chips and RAM on, so it is the last. The first shows what the measuring takes. */
 static const struct { const char *name; void (*run)(void); } calls[] = {
-    { "(no call)", nothing }, { "frame", show }, { "repaint", repaint }, { "changes", changes }, { "feed_open", feed_open },
+    { "(no call)", nothing }, { "frame", show }, { "repaint", repaint }, { "sparing_repaint", sparing }, { "changes", changes },
+    { "feed_open", feed_open },
     { "feed_part, the first", feed_first }, { "feed_part, another", feed_rest }, { "feed_close", feed_close },
     { "version", version }, { "replay", replay },
 };

@@ -51,6 +51,7 @@ extern replay_call plain_feed_part;         /* the feed's bytes where replay has
 extern close_call plain_feed_close;
 typedef uint64_t changes_call(const uint8_t *, size_t, const uint8_t *, size_t, const uint8_t *, size_t, uint8_t *, size_t);
 extern changes_call plain_changes;
+extern changes_call plain_sparing_repaint; /* picture and output where changes has trace and entries */
 
 /* ---- answers ---- */
 
@@ -342,6 +343,42 @@ static inline void put_repaint(struct trace *t, uint8_t *chips, const uint8_t *p
     t->len += REPAINT;
     chips[PEDRALUME_START_LINE] ^= 16;
     chips[CHIP + PEDRALUME_START_LINE] ^= 16;
+}
+
+/* Where byte i of a picture goes: its place in RAM, in the pages that these ready chips hide. */
+static inline unsigned hidden_place(const uint8_t *chips, unsigned i)
+{
+    unsigned chip = i % WIDTH / HALF_WIDTH, segment = i % HALF_WIDTH;
+    const uint8_t *c = chips + CHIP * chip;
+    unsigned page = (c[PEDRALUME_START_LINE] == 0 ? 2 : 0) + i / WIDTH;
+    return HALF_RAM * chip + COLUMN_STOP * page + (c[PEDRALUME_ADC] ? COLUMN_STOP - 1 - segment : segment);
+}
+
+/* Makes the hidden pages hold the picture but for these differences, 0 for a byte that is the same. */
+static inline void hide_picture(const uint8_t *chips, uint8_t *ram, const uint8_t *picture, const uint8_t *differences)
+{
+    for (unsigned i = 0; i < PICTURE; i++)
+        ram[hidden_place(chips, i)] = picture[i] ^ differences[i];
+}
+
+/* At most four single bytes, half of them at either end of a page; or runs, which end one time in so many bytes, in 0 never. */
+static inline void draw_differences(struct rng *g, uint8_t *differences)
+{
+    static const uint8_t ends[] = { 0, 1, 2, 4, 16, 64 };
+    unsigned end = ends[below(g, sizeof ends)];
+    bool differs = one_in(g, 2);
+    memset(differences, 0, PICTURE);
+    if (one_in(g, 4)) {
+        for (unsigned bytes = below(g, 5); bytes > 0; bytes--) {
+            unsigned at_end = HALF_WIDTH * below(g, 4) + (one_in(g, 2) ? 0 : HALF_WIDTH - 1);
+            differences[one_in(g, 2) ? at_end : below(g, PICTURE)] = (uint8_t)between(g, 1, 255);
+        }
+        return;
+    }
+    for (unsigned i = 0; i < PICTURE; i++) {
+        differs ^= end > 0 && one_in(g, end);
+        differences[i] = differs ? (uint8_t)between(g, 1, 255) : 0;
+    }
 }
 
 /* Any length from 0 to most but the right one, often next to it. */
