@@ -16,9 +16,10 @@ enum {
     STATUS_ARGUMENTS = 2
 };
 
-/* Each program's own name, and its usage, in which two %s stand for what it is called by. */
+/* Each program's own name, and its usage in parts, since C99 promises no string over 4,095 characters: in the first two %s stand
+ * for what it is called by, and NULL ends them. */
 extern const char own_name[];
-extern const char usage[];
+extern const char *const usage[];
 
 /* What the program calls itself in messages: its own name, or pedralume-... where it was installed so. */
 extern const char *program;

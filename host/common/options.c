@@ -102,6 +102,13 @@ static bool asked(int argc, char **argv, const char *option)
     return false;
 }
 
+static void print_usage(void)
+{
+    printf(usage[0], program, program);
+    for (size_t part = 1; usage[part] != NULL; part++)
+        fputs(usage[part], stdout);
+}
+
 bool only_told(int argc, char **argv, int *status)
 {
     bool help = asked(argc, argv, "--help") || asked(argc, argv, "-h");
@@ -109,7 +116,7 @@ bool only_told(int argc, char **argv, int *status)
         return false;
     errno = 0;
     if (help)
-        printf(usage, program, program);
+        print_usage();
     else
         printf("%s (Pedralume) %s\n", program, PEDRALUME_VERSION);
     *status = all_printed() ? EXIT_SUCCESS : EXIT_FAILURE;

@@ -16,7 +16,7 @@
 
 const char own_name[] = "show";
 
-const char usage[] =
+const char *const usage[] = {
     "Usage: %s [TRACE] [OPTION]...\n"
     "       %s --live [--start FILE] [--save FILE] [--form FORM]\n"
     "\n"
@@ -29,6 +29,9 @@ const char usage[] =
     "  --repaint PICTURE  after the whole trace, send the 254 records that repaint\n"
     "                     the panel with PICTURE, a PBM (P1 or P4) of 122 by 16, or\n"
     "                     by 32 with a blank lower half; 1 = lit\n"
+    "  --sparing          with --repaint: send the sparing repaint, of 2 to 254\n"
+    "                     records, which leaves out what RAM holds already, and say\n"
+    "                     how many of 254 cycles it takes\n"
     "  --at N             send only the first N records of the trace; with\n"
     "                     --repaint, only the first N of the repaint; N may be 0\n"
     "  --live             instead of a file, take records from standard input as\n"
@@ -37,7 +40,7 @@ const char usage[] =
     "                     of the last; ends with the input, at Ctrl-C or at a\n"
     "                     refused record, and counts the records taken and the\n"
     "                     reads compared\n"
-    "\n"
+    "\n",
     "What is shown:\n"
     "  --changes          each record that changed what the panel shows, with the\n"
     "                     pixels changed in the left and in the right half; with\n"
@@ -79,11 +82,14 @@ const char usage[] =
     "  -h, --help         print this\n"
     "  --version          print the version\n"
     "\n"
-    "After each of the first 252 records of a repaint the panel shows what it showed\n"
-    "before; after the 253rd the left half is new, after the 254th both are.\n"
+    "Until the last two records of a repaint, the 253rd and the 254th if it is not\n"
+    "sparing, the panel shows what it showed before; after the first of the two the\n"
+    "left half is new, after the second both are.\n"
     "\n"
     "Status: 0 shown, 1 a file, the trace, the input or the repaint is at fault,\n"
-    "2 the arguments are.\n";
+    "2 the arguments are.\n",
+    NULL
+};
 
 /* As typed; NULL where not given. */
 struct options {
@@ -91,6 +97,7 @@ struct options {
     const char *start;
     const char *save;
     const char *repaint;
+    const char *sparing;
     const char *records;
     const char *at;
     const char *changes;
@@ -140,8 +147,8 @@ static bool goes_without(const char *words, const struct other *others, size_t c
 static bool check_live(const struct options *options)
 {
     const struct other others[] = {
-        { "--repaint", options->repaint }, { "--records", options->records }, { "--at", options->at },
-        { "--changes", options->changes }, { "--list", options->list }, { "--every", options->every },
+        { "--repaint", options->repaint }, { "--sparing", options->sparing }, { "--records", options->records },
+        { "--at", options->at }, { "--changes", options->changes }, { "--list", options->list }, { "--every", options->every },
         { "--delay", options->delay }, { "--wear", options->wear }, { "--pbm", options->pbm }, { "--pgm", options->pgm },
     };
     if (options->trace != NULL)
@@ -172,6 +179,8 @@ static bool check_companions(const struct options *options)
         return wrong_argument("--list goes with", "--changes");
     if (options->delay != NULL && options->every == NULL)
         return wrong_argument("--delay goes with", "--every");
+    if (options->sparing != NULL && options->repaint == NULL)
+        return wrong_argument("--sparing goes with", "--repaint");
     return options->records == NULL || options->repaint != NULL || wrong_argument("--records goes with", "--repaint");
 }
 
@@ -205,8 +214,8 @@ static bool take_options(int argc, char **argv, struct options *options)
 {
     const struct option all[] = {
         { "--start", true, &options->start }, { "--save", true, &options->save },
-        { "--repaint", true, &options->repaint }, { "--records", true, &options->records },
-        { "--at", true, &options->at },
+        { "--repaint", true, &options->repaint }, { "--sparing", false, &options->sparing },
+        { "--records", true, &options->records }, { "--at", true, &options->at },
         { "--changes", false, &options->changes }, { "--list", false, &options->list },
         { "--every", false, &options->every }, { "--delay", true, &options->delay },
         { "--wear", false, &options->wear },
@@ -290,30 +299,51 @@ static bool repaint_refused(const char *trace, uint64_t answer)
     return false;
 }
 
-/* The records, from the chips that the run has come to. */
-static bool make_repaint(const struct run *run, const char *path, uint8_t records[PEDRALUME_REPAINT_BYTES])
+/* A repaint's records, and how many they are. */
+struct repaint {
+    size_t count;
+    uint8_t records[PEDRALUME_REPAINT_BYTES];
+};
+
+/* Made for the chips and RAM that the run has come to. */
+static bool make_repaint(const struct run *run, const struct options *options, struct repaint *made)
 {
     uint8_t picture[PEDRALUME_PICTURE_BYTES];
-    if (!read_picture(path, picture))
+    if (!read_picture(options->repaint, picture))
         return false;
-    uint64_t answer = pedralume_repaint(run->feed, PEDRALUME_CHIPS_BYTES, picture, sizeof picture,
-                                        records, PEDRALUME_REPAINT_BYTES);
+    uint64_t answer = options->sparing != NULL
+        ? pedralume_sparing_repaint(run->feed, PEDRALUME_CHIPS_BYTES, run->ram, sizeof run->ram, picture, sizeof picture,
+                                    made->records, sizeof made->records)
+        : pedralume_repaint(run->feed, PEDRALUME_CHIPS_BYTES, picture, sizeof picture, made->records, sizeof made->records);
+    made->count = pedralume_place(answer);
     return pedralume_number(answer) == PEDRALUME_DONE || repaint_refused(run->name, answer);
 }
 
 /* Sends the repaint, whole or its first records. */
-static bool send_repaint(struct run *run, const struct options *options, const struct kept *kept)
+static bool send_repaint(struct run *run, const struct options *options, const struct kept *kept, struct repaint *made)
 {
-    uint8_t records[PEDRALUME_REPAINT_BYTES];
-    size_t count = options->at != NULL ? records_of(options->at) : PEDRALUME_REPAINT_RECORDS;
-    if (!make_repaint(run, options->repaint, records))
+    if (!make_repaint(run, options, made))
         return false;
+    size_t count = options->at != NULL ? records_of(options->at) : made->count;
     struct run before = *run;
     if (!go_on_from(run, "the repaint", &before))
         return false;
-    if (count > PEDRALUME_REPAINT_RECORDS)
-        return too_few(run->name, PEDRALUME_REPAINT_RECORDS, options->at);
-    return send_part(run, records, count * RECORD, kept);
+    if (count > made->count)
+        return too_few(run->name, made->count, options->at);
+    return send_part(run, made->records, count * RECORD, kept);
+}
+
+/* What a sparing repaint takes of a whole one's cycles, as a last line; it says nothing of one that is not sparing. */
+static bool tell_sparing(const struct options *options, const struct repaint *made)
+{
+    if (options->sparing == NULL || to_standard_output(options) > 0)
+        return true;
+    errno = 0;
+    printf("the sparing repaint takes %zu of %u cycles", made->count, PEDRALUME_REPAINT_RECORDS);
+    if (options->at != NULL)
+        printf(", %zu of them sent", records_of(options->at));
+    putchar('\n');
+    return all_printed();
 }
 
 static bool write_records(const char *path, const struct bytes *records)
@@ -377,6 +407,7 @@ static bool write_files(const struct options *options, const struct run *run, co
 static bool show_trace(const struct options *options)
 {
     static struct bytes records;
+    struct repaint made;
     struct run run, before;
     bool again = options->changes != NULL || options->every != NULL, repaints = options->repaint != NULL;
     const struct kept of_trace = { again && !repaints ? &records : NULL, NULL }, of_repaint = { &records, NULL };
@@ -388,27 +419,27 @@ static bool show_trace(const struct options *options)
     before.name = run.name;
     if (repaints) {
         before = run;
-        if (!send_repaint(&run, options, &of_repaint))
+        if (!send_repaint(&run, options, &of_repaint, &made))
             return false;
     }
     if (!write_files(options, &run, &records))
         return false;
     struct batch batch = { &before, records.at, records.length / RECORD };
-    return again ? show_again(options, &batch) : show_panel(options, &run);
+    return (again ? show_again(options, &batch) : show_panel(options, &run)) && tell_sparing(options, &made);
 }
 
 /* ---- wear ---- */
 
 /* Of the trace, or with --repaint of the repaint: whether there is something to show. Where a record was refused there is what
  * came before it, and the run is no longer open. */
-static bool count_stores(struct run *run, const struct options *options, struct bytes *records, struct wear *wear)
+static bool count_stores(struct run *run, const struct options *options, struct bytes *records, struct wear *wear, struct repaint *made)
 {
     const struct kept nothing = { NULL, NULL }, of_trace = { NULL, wear }, of_repaint = { records, wear };
     if (!begin_trace(run, options))
         return false;
     if (options->repaint == NULL)
         return send_trace(run, options->trace, options->at, &of_trace) || !is_open(run);
-    return send_trace(run, options->trace, NULL, &nothing) && end_run(run) && send_repaint(run, options, &of_repaint);
+    return send_trace(run, options->trace, NULL, &nothing) && end_run(run) && send_repaint(run, options, &of_repaint, made);
 }
 
 /* A refusal is said last. */
@@ -416,11 +447,12 @@ static bool show_wear(const struct options *options)
 {
     static struct bytes records;
     static struct wear wear;
+    struct repaint made;
     struct run run;
-    if (!count_stores(&run, options, &records, &wear))
+    if (!count_stores(&run, options, &records, &wear, &made))
         return false;
     bool shown = write_files(options, &run, &records) && (options->pgm == NULL || write_wear(options->pgm, &wear))
-              && (to_standard_output(options) > 0 || print_wear(&wear, &run));
+              && (to_standard_output(options) > 0 || print_wear(&wear, &run)) && tell_sparing(options, &made);
     return end_run(&run) && shown;
 }
 

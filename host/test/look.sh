@@ -363,6 +363,16 @@ every "changes" 13 "--every --changes" "$t"; numbers 0 2 5 10 11 12 13
 every "changes of a repaint" 254 "--changes --every" "$example" --repaint "$new_name"; numbers 0 253 254
 # shellcheck disable=SC2046
 every "a repaint" 254 --every "$example" --repaint "$new_name"; numbers $(seq 0 254)
+name="every, a sparing repaint"
+rm -f "$work/e/"*
+run "$example" --repaint "$new_name" --sparing --every --pbm "$work/e/a.b.pbm"; done_with "$name" 0 ""; takes "$name" 187
+check "$name: prints '$(cat "$work/out")'" same "$(cat "$work/out")" "188 pictures, numbered by the records before them"
+# shellcheck disable=SC2046
+numbers $(seq 0 187)
+for n in 0 1 185 186 187; do
+    "$show" "$example" --repaint "$new_name" --at $((n < 185 ? n : n + 67)) --pbm "$pbm" >/dev/null
+    check "$name, after $n" cmp -s "$work/e/a.b-000$(printf %03d $n).pbm" "$pbm"
+done
 : >"$t"; every "nothing" 0 --every "$t"; numbers 0
 changes >"$t"
 for file in plain .hidden f.older/plain; do
@@ -403,6 +413,9 @@ paged "escape alone" "$(printf ' \033 \033q')" 0 1 2
 paged "escape and Ctrl-C" "$(printf ' \033\003')" 0 1
 paged "left with Ctrl-C" "$(printf ' \003')" 0 1
 paged "left with Ctrl-D" "$(printf ' \004')" 0 1
+on_terminal 130 "Gq" "$example" --repaint "$new_name" --sparing --changes; done_with "pages, a sparing repaint" 0 ""
+takes "pages, a sparing repaint" 187
+check "pages, a sparing repaint: $(tail -n 1 "$work/out")" same "$(tail -n 1 "$work/out")" "2 of 187 records changed what the panel shows"
 on_terminal 130 "" "$t" --changes --list; done_with "pages, --list" 0 ""
 "$show" "$t" --changes >"$work/wanted"; printed "pages, --list" "$work/wanted"
 head -c 4 "$t" >"$work/one"

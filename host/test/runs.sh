@@ -75,6 +75,11 @@ done_with() { # LABEL STATUS MESSAGE: how the last run ended
     check "$1: says '$(cat "$work/err")'" same "$(cat "$work/err")" "$3"
 }
 printed() { check "$1: prints something else" cmp -s "$work/out" "$2"; } # LABEL FILE
+takes() { # LABEL COUNT [AT]: a sparing repaint: the last line of what the last run printed says so; the rest becomes all that it printed
+    check "$1: says '$(tail -n 1 "$work/out")'" same "$(tail -n 1 "$work/out")" "the sparing repaint takes $2 of 254 cycles${3:+, $3 of them sent}"
+    sed '$d' "$work/out" >"$work/rest"
+    mv "$work/rest" "$work/out"
+}
 refused() { # LABEL STATUS MESSAGE ARGUMENTS...: this message, this status, nothing shown
     name=$1 want=$2 message=$3
     shift 3

@@ -522,6 +522,85 @@ refused "changes, repaint at 255" 1 "the repaint: has only 254 records, --at ask
 { printf 'P1\n122 16\n'; digits "1 $first" "14 $dark" "1 $last"; } >"$picture"
 wanted 0 254 </dev/null; listed_whole "repaint of what is shown" 250 254 "$t" --repaint "$picture"
 
+# ---- sparing repaints: what RAM holds already is left out, and a last line says how many cycles are left ----
+
+spared() { # LABEL COUNT AT ARGUMENTS...: as shown, with the sparing repaint; AT may be empty
+    name=$1 cycles=$2 sent=$3
+    shift 3
+    rm -f "$pbm"
+    run "$@" --sparing ${sent:+--at "$sent"} --pbm "$pbm"
+    done_with "$name" 0 ""
+    takes "$name" "$cycles" "$sent"
+    text_of "$pbm" >"$work/text"
+    printed "$name" "$work/text"
+}
+sparing_repainted() { # LABEL COUNT: the trace and the picture at each point where something changes
+    for at in 0 1 $(($2 - 2)); do
+        spared "$1 at $at" "$2" $at "$t" --repaint "$picture"; old "$1 at $at"
+    done
+    spared "$1 at $(($2 - 1))" "$2" $(($2 - 1)) "$t" --repaint "$picture"; torn "$1 at $(($2 - 1))"
+    spared "$1 at $2" "$2" "$2" "$t" --repaint "$picture"; new "$1 at $2"
+    spared "$1 whole" "$2" "" "$t" --repaint "$picture"; new "$1 whole"
+    for at in $(($2 + 1)) 254 255; do
+        refused "$1 at $at" 1 "the repaint: has only $2 records, --at asks for $at" "$t" --repaint "$picture" --sparing --at $at
+    done
+}
+# The hidden pages are all 0. Of this picture three of their four are written whole, and the last is dark: 3 x 63 + 2.
+{ printf 'P1\n122 16\n'; new_rows digits; } >"$picture"
+for chips in "C0 0 D0 1" "C0 1 C0 0" "D0 0 D0 0" "D0 1 C0 1"; do
+    # shellcheck disable=SC2086
+    old_pixels $chips >"$t"
+    sparing_repainted "sparing, chips $chips" 191
+done
+# Two bytes of two pages, each with its page and its column, and the start lines. Given up before these, it has only them left.
+old_pixels C0 0 C0 0 >"$t"
+{ printf 'P1\n122 16\n'; digits "1 $first" "14 $dark" "1 $last"; } >"$picture"
+spared "sparing, two bytes" 8 "" "$t" --repaint "$picture"; old "sparing, two bytes"
+spared "sparing, given up" 8 6 "$t" --repaint "$picture" --save "$work/quiet.state"; old "sparing, given up"
+spared "sparing, taken up again" 2 "" --start "$work/quiet.state" --repaint "$picture"; old "sparing, taken up again"
+
+# The example: as the repaint at the end, by RAM and by panel, and before.
+count=187
+for n in 0 1 $((count - 2)); do
+    spared "sparing, example at $n" $count $n "$example" --repaint "$new_name"; oliveira "sparing, example at $n"
+done
+spared "sparing, example, torn" $count $((count - 1)) "$example" --repaint "$new_name"; monteira "sparing, example, torn"
+spared "sparing, example, whole" $count "" "$example" --repaint "$new_name" --save "$work/spared.state"; monteiro "sparing, example, whole"
+"$show" "$example" --repaint "$new_name" --save "$work/whole.state" >"$work/text"
+tail -c 640 "$work/whole.state" >"$work/whole.ram"
+tail -c 640 "$work/spared.state" | cmp -s - "$work/whole.ram"; check "sparing, example: another RAM than the repaint's" same $? 0
+
+# --changes lists the last two; --records writes what is sent, with no line where it goes to standard output.
+spared_changes() { # LABEL COUNT AT: the list is that in $work/wanted
+    run "$example" --repaint "$new_name" --sparing --changes ${3:+--at "$3"}; takes "$1" "$2" "$3"; ended "$1" 0 ""
+}
+sparing_turned() { turned 16 276 16 32 | sed "s/^record 252/record $((count - 2))/; s/^record 253/record $((count - 1))/"; }
+sparing_turned | wanted 2 $count; spared_changes "sparing, changes" $count ""
+sparing_turned | wanted 2 $count; spared_changes "sparing, changes, all at" $count $count
+sparing_turned | head -n 1 | wanted 1 $((count - 1)); spared_changes "sparing, changes, torn" $count $((count - 1))
+wanted 0 $((count - 2)) </dev/null; spared_changes "sparing, changes before them" $count $((count - 2))
+for n in 0 1 $((count - 1)) $count; do
+    "$show" "$example" --save "$work/name.state" >"$work/text"
+    spared "sparing, records at $n" $count $n "$example" --repaint "$new_name" --records "$work/r.trace" --save "$work/got.state"
+    check "sparing, records at $n: length" same "$(wc -c <"$work/r.trace")" $((4 * n))
+    run "$work/r.trace" --start "$work/name.state" --save "$work/sent.state"; done_with "sparing, records at $n, sent" 0 ""
+    check "sparing, records at $n, sent: other chips or RAM" cmp -s "$work/got.state" "$work/sent.state"
+    run "$example" --repaint "$new_name" --sparing --at $n --records -; done_with "sparing, records at $n, to standard output" 0 ""
+    printed "sparing, records at $n, to standard output" "$work/r.trace"
+done
+run "$example" --repaint "$new_name" --sparing --pbm -; done_with "sparing, a picture to standard output" 0 ""
+"$show" "$example" --repaint "$new_name" --pbm - >"$work/wanted"; printed "sparing, a picture to standard output" "$work/wanted"
+"$show" "$example" --repaint "$new_name" --sparing --at 1 >/dev/full 2>"$work/err"; status=$?
+done_with "sparing on a full disk" 1 "standard output: cannot be written: No space left on device"
+
+refused "sparing, of fresh chips" 1 "/dev/null: repaint after it refused: number 9, left chip: display off or static drive on" \
+    /dev/null --repaint "$picture" --sparing
+refused "sparing alone" 2 'show: --sparing goes with "--repaint"; see show --help' "$t" --sparing
+refused "sparing alone, at" 2 'show: --sparing goes with "--repaint"; see show --help' "$t" --at 1 --sparing
+refused "live, sparing" 2 'show: --live goes without "--sparing"; see show --help' --live --sparing
+refused "sparing twice" 2 'show: more than one "--sparing"; see show --help' "$t" --repaint "$picture" --sparing --sparing
+refused "sparing with a value" 2 'show: no value goes with "--sparing"; see show --help' "$t" --repaint "$picture" --sparing=1
+
 # ---- changes: files and arguments ----
 
 changes >"$t"
@@ -591,7 +670,8 @@ for arguments in "--help" "-h" "$t --foo --help"; do
     check "$arguments: usage" same "$(head -n 1 "$work/out")" "Usage: show [TRACE] [OPTION]..."
     check "$arguments: usage, live" same "$(sed -n 2p "$work/out")" "       show --live [--start FILE] [--save FILE] [--form FORM]"
     check "$arguments: wider than a terminal" same "$(awk 'length($0) > 79' "$work/out")" ""
-    for option in --start --save --repaint --records --at --changes --list --every --delay --wear --pbm --pgm --form --live "-h, --help" --version; do
+    for option in --start --save --repaint --sparing --records --at --changes --list --every --delay --wear --pbm --pgm --form --live \
+        "-h, --help" --version; do
         check "$arguments: $option" same "$(grep -c -e "^  $option " "$work/out")" 1
     done
 done

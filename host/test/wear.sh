@@ -181,6 +181,11 @@ for n in 0 1 3 62 63 65 200 253 254; do
 done
 worn "a repaint" 0 254 "" "$example" --repaint "$new_name" --records "$work/r.trace"
 check "a repaint: its records" cmp -s "$t" "$work/r.trace"
+for n in 0 100 185 187; do
+    name="a sparing repaint at $n"
+    run "$example" --repaint "$new_name" --sparing --wear --at $n --records "$t" --pgm "$pgm"; done_with "$name" 0 ""
+    count "$t" "$work/state" >"$lines"; takes "$name" 187 $n; drawn "$name" shades $n; mapped "$name"
+done
 rm -f "$pgm"
 { cat "$example"; records "2 0 80"; } >"$t"
 refused "a repaint after a refused trace" 1 "$t: record 886 refused: number 7, a byte that is no command" "$t" --repaint "$new_name" --wear --pgm "$pgm"

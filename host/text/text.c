@@ -11,7 +11,7 @@
 
 const char own_name[] = "text";
 
-const char usage[] =
+const char *const usage[] = {
     "Usage: %s [TRACE] [--start FILE] [--skip] [--check]\n"
     "       %s --back [TEXT]\n"
     "\n"
@@ -46,7 +46,9 @@ const char usage[] =
     "or, without left or right, raw HH HH HH HH, the bytes of a record as they are.\n"
     "\n"
     "Status: 0 done, 1 the file, the trace or the text is at fault, 2 the arguments\n"
-    "are.\n";
+    "are.\n",
+    NULL
+};
 
 enum {
     PART = 65536,
