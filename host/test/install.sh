@@ -37,10 +37,10 @@ names() { (cd "$1" && find . ! -type d | sort); } # FOLDER
 
 # ---- installed, twice, and under DESTDIR ----
 
-calls="changes feed_close feed_open feed_part frame repaint replay version"
+calls="changes feed_close feed_open feed_part frame repaint replay sparing_repaint version"
 helpers="compared differing entry_left entry_record entry_right feed_compared feed_differing feed_field feed_place feed_records"
 helpers="$helpers number pixel place words"
-examples="changes frame list_long recorder repaint replay_long"
+examples="changes frame list_long recorder repaint replay_long sparing"
 version=$(sed -nE 's/^#define PEDRALUME_VERSION_(MAJOR|MINOR|PATCH) //p' host/include/pedralume.h | paste -sd .)
 major=${version%%.*}
 {
@@ -266,10 +266,10 @@ for page in $pages; do
     for part in NAME SYNOPSIS DESCRIPTION "SEE ALSO"; do check "$page: has no $part" grep -qx ".SH $part" "$page"; done
     case $page in *.1) for part in OPTIONS "EXIT STATUS" EXAMPLES; do check "$page: has no $part" grep -qx ".SH $part" "$page"; done ;; esac
 done
-# the eight prototypes, without white space; then the sections, each of which says something under its prototype
+# the nine prototypes, without white space; then the sections, each of which says something under its prototype
 prototypes() { tr -d '" \n' | grep -oE 'uint64_tpedralume_[a-z_]*\([^()]*\);'; }
 sed '1,/^#ifdef __cplusplus/d' "$header" | prototypes >"$work/declared"
-check "the header declares $(grep -c . "$work/declared") calls" same "$(grep -c . "$work/declared")" 8
+check "the header declares $(grep -c . "$work/declared") calls" same "$(grep -c . "$work/declared")" 9
 check "pedralume.3: other prototypes than the header has" same "$(section SYNOPSIS "$page3" | prototypes)" "$(cat "$work/declared")"
 sections() { section "$1" "$page3" | sed -n 's/^\.SS pedralume_//p' | sort | paste -sd ' '; } # NAME
 check "pedralume.3: sections of other calls" same "$(sections CALLS)" "$calls"
