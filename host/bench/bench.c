@@ -2,15 +2,17 @@
  * Times the archive against the plain implementation: each record of a full trace (16,384 records), replayed
  * or fed in parts of several lengths; each frame, each repaint; each record of a full trace whose changes are
  * listed, where the plain one draws the whole frame at every record. The archive's feed is also timed against
- * its own replay of the same trace. Both sides get the same bytes.
+ * its own replay of the same trace, and its sparing repaint against its own repaint of the same picture. Both sides
+ * get the same bytes.
  * Another archive may stand in the plain implementation's place, under its names; OTHER_SIDE is what its times are
- * printed under.
+ * printed under. Where it is older than the sparing repaint, that is timed against the repaint alone.
  * The jobs are gone through in rounds, and within a job the two take turns, so that all see the same
  * machine; the best turn of each counts.
  *
- * Usage: bench [LIMIT [FEED_LIMIT [CHANGES_LIMIT]]]: fails where a ratio of a replay or a frame is over
- * LIMIT, that of a feed in parts of 512 bytes or more to its replay over FEED_LIMIT, or one of changes over
- * CHANGES_LIMIT; - is no limit.
+ * Usage: bench [LIMIT [FEED_LIMIT [CHANGES_LIMIT [SPARING_LIMIT]]]]: fails where a ratio of a replay or a frame is
+ * over LIMIT, that of a feed in parts of 512 bytes or more to its replay over FEED_LIMIT, one of changes over
+ * CHANGES_LIMIT, or that of the sparing repaint of a wholly different picture to the repaint over SPARING_LIMIT; - is
+ * no limit.
  *
  * bench once takes one turn of each job that has the plain implementation on its other side, and prints a
  * line for each: how much is done in a turn, of what, and the job's name. instructions.sh reads these lines.
@@ -22,11 +24,14 @@
 
 enum { ROUNDS = 200, TURNS_A_ROUND = 5, CALLS_A_TURN = 128, MOST_JOBS = 64 };
 
-/* The two sides of a job. Where a feed is timed against the archive's own replay, the replay takes the plain side. */
+/* The two sides of a job. Where the archive is timed against its own replay or repaint, that takes the plain side. */
 enum { ARCHIVE, PLAIN };
 
 /* Which limit a job's ratio is held to. */
-enum { LIMIT, FEED_LIMIT, CHANGES_LIMIT, LIMITS, NO_LIMIT = LIMITS };
+enum { LIMIT, FEED_LIMIT, CHANGES_LIMIT, SPARING_LIMIT, LIMITS, NO_LIMIT = LIMITS };
+
+/* Null where another archive has not the call. */
+#pragma weak plain_sparing_repaint
 
 static double now_ns(void)
 {
@@ -43,11 +48,12 @@ struct job {
     unsigned units;     /* done in a turn */
     unsigned limit;
     size_t place;       /* the answer's, done */
+    size_t other_place; /* the other side's where it writes other bytes, else 0 */
     size_t entries;     /* bytes lent for entries, 0 but for changes */
     void (*prepare)(const struct job *, unsigned side);
     uint64_t (*work)(const struct job *, unsigned side);
-    const void *input;  /* struct load, struct painting or struct feeding, as prepare and work take it */
-    bool own;           /* the other side is the archive's own replay */
+    const void *input;  /* struct load, struct painting, struct sparing or struct feeding, as prepare and work take it */
+    bool own;           /* the other side is the archive's own replay or repaint */
     double best[2];
 };
 
@@ -65,13 +71,17 @@ static void add(struct job job, const char *way, const char *what)
 static uint8_t written[2][CHIPS + RAM + 2 * RECORDS_MAX];
 static uint8_t listed[2][ENTRIES_MAX];
 
-/* A timing of different work would say nothing. */
+static bool same_work(const struct job *job, const uint64_t answer[2])
+{
+    return answer[ARCHIVE] == answer[PLAIN] && memcmp(written[ARCHIVE], written[PLAIN], sizeof written[PLAIN]) == 0
+        && memcmp(listed[ARCHIVE], listed[PLAIN], job->entries) == 0;
+}
+
+/* A timing of different work would say nothing, but where the sides are meant to write different bytes. */
 static void must_agree(const struct job *job, const uint64_t answer[2])
 {
     bool whole = (answer[ARCHIVE] & 0xFFFFFFu) == answer_of(0, job->place, 0, 0);
-    bool same = memcmp(written[ARCHIVE], written[PLAIN], sizeof written[PLAIN]) == 0
-             && memcmp(listed[ARCHIVE], listed[PLAIN], job->entries) == 0;
-    if (whole && answer[ARCHIVE] == answer[PLAIN] && same)
+    if (whole && (job->other_place > 0 ? answer[PLAIN] == answer_of(0, job->other_place, 0, 0) : same_work(job, answer)))
         return;
     printf("bench: %s: the two do not do the same whole work\n", job->name);
     exit(EXIT_FAILURE);
@@ -398,6 +408,61 @@ static void add_repaint(void)
                       .place = REPAINT_RECORDS, .prepare = prepare_painting, .work = work_painting, .input = &p }, "repaint", "");
 }
 
+/* ---- sparing repaints ---- */
+
+/* Ready chips, and a picture that the hidden pages hold but for so many bytes of each band, from a place on. */
+struct sparing {
+    const char *name;
+    unsigned first, count;
+    size_t cycles;
+    unsigned limit;             /* beside the repaint */
+    changes_call *call[2];      /* a side without one repaints */
+    uint8_t chips[CHIPS], ram[RAM], picture[PICTURE];
+};
+
+static uint64_t work_sparing(const struct job *job, unsigned side)
+{
+    const struct sparing *s = job->input;
+    changes_call *const spare = s->call[side];
+    uint64_t answer = 0;
+    for (unsigned i = 0; i < CALLS_A_TURN; i++)
+        answer = spare != NULL ? spare(s->chips, CHIPS, s->ram, RAM, s->picture, PICTURE, written[side], REPAINT)
+                               : pedralume_repaint(s->chips, CHIPS, s->picture, PICTURE, written[side], REPAINT);
+    return answer;
+}
+
+static void fill_sparing(struct sparing *s)
+{
+    struct rng g = { 1520 };
+    uint8_t differences[PICTURE] = { 0 };
+    random_bytes(&g, s->ram, RAM);
+    random_bytes(&g, s->picture, PICTURE);
+    for (unsigned i = 0; i < PICTURE; i++)
+        differences[i] = i % WIDTH >= s->first && i % WIDTH < s->first + s->count ? 0x55 : 0;
+    hide_picture(s->chips, s->ram, s->picture, differences);
+}
+
+/* Against the archive's own repaint or against the plain implementation. A letter is ten columns of one half, in both bands. */
+static void add_sparing(bool own)
+{
+    static const struct sparing kinds[] = {
+        { .name = "one letter", .first = 20, .count = 10, .cycles = 26, .limit = NO_LIMIT, .chips = READY_CHIPS },
+        { .name = "an equal picture", .count = 0, .cycles = 2, .limit = NO_LIMIT, .chips = READY_CHIPS },
+        { .name = "a wholly different one", .count = WIDTH, .cycles = REPAINT_RECORDS, .limit = SPARING_LIMIT, .chips = READY_CHIPS },
+    };
+    static struct sparing all[2][sizeof kinds / sizeof kinds[0]];
+    for (size_t i = 0; i < sizeof kinds / sizeof kinds[0]; i++) {
+        struct sparing *s = &all[own][i];
+        *s = kinds[i];
+        s->call[ARCHIVE] = pedralume_sparing_repaint;
+        s->call[PLAIN] = own ? NULL : plain_sparing_repaint;
+        fill_sparing(s);
+        add((struct job){ .unit = "repaint", .side = { own ? "sparing" : "archive", own ? "repaint" : OTHER_SIDE }, .units = CALLS_A_TURN,
+                          .limit = own ? s->limit : NO_LIMIT, .place = s->cycles, .other_place = own ? REPAINT_RECORDS : 0,
+                          .prepare = prepare_painting, .work = work_sparing, .input = s, .own = own }, "sparing repaint", s->name);
+    }
+}
+
 /* ---- changes ---- */
 
 /* Clears the entries; chips and RAM are only read. */
@@ -453,6 +518,9 @@ static void add_jobs(void)
     add_frame("static drive on", &frames[4]);
     add_frame("display off", &frames[5]);
     add_repaint();
+    add_sparing(true);
+    if (plain_sparing_repaint != NULL)
+        add_sparing(false);
     add_feeds(&writes);
     add_feeds(&rmw_reads);
     add_feeds(&mixed);
@@ -463,9 +531,12 @@ static void add_jobs(void)
 
 static void run_jobs(void)
 {
-    for (const struct job *job = jobs; job < jobs + job_count; job++)
+    for (const struct job *job = jobs; job < jobs + job_count; job++) {
         if (job->entries > 0)
             printf("bench: %s: %zu of the records are listed\n", job->name, job->place);
+        if (job->other_place > 0)
+            printf("bench: %s: %zu of %zu cycles\n", job->name, job->place, job->other_place);
+    }
     printf("bench: best of %u turns in %u rounds; a turn is a trace of %u records, chips and RAM restored and the\n"
            "       answers cleared before, untimed, or %u frames or repaints; a feed is opened before, untimed,\n"
            "       and given the trace in parts of so many bytes; of changes the entries are cleared before, untimed\n",
@@ -475,7 +546,7 @@ static void run_jobs(void)
             for (unsigned turn = 0; turn < TURNS_A_ROUND; turn++)
                 take_turns(&jobs[i]);
     for (const struct job *job = jobs; job < jobs + job_count; job++)
-        printf("  %-41s %-7s %8.2f ns, %-6s %8.2f ns for each %-8s ratio %6.2f\n", job->name, job->side[ARCHIVE],
+        printf("  %-41s %-7s %8.2f ns, %-7s %8.2f ns for each %-8s ratio %6.2f\n", job->name, job->side[ARCHIVE],
                job->best[ARCHIVE], job->side[PLAIN], job->best[PLAIN], job->unit, ratio(job));
 }
 
@@ -492,7 +563,9 @@ static void run_once(void)
 /* Whether no job that this limit is for has a ratio over it. */
 static bool holds(unsigned which, double limit)
 {
-    static const char *const whose[LIMITS] = { "a replay or a frame", "a feed in parts of 512 bytes or more", "changes" };
+    static const char *const whose[LIMITS] = {
+        "a replay or a frame", "a feed in parts of 512 bytes or more", "changes", "a sparing repaint of a wholly different picture"
+    };
     unsigned held = 0, over = 0;
     for (const struct job *job = jobs; job < jobs + job_count; job++) {
         if (job->limit != which)
@@ -528,7 +601,7 @@ int main(int argc, char **argv)
     for (int i = 1; good && !once && i < argc; i++)
         good = read_limit(argv[i], &limit[i - 1]);
     if (!good) {
-        fprintf(stderr, "Usage: bench [LIMIT [FEED_LIMIT [CHANGES_LIMIT]]], each a ratio over 0, or - for none, or bench once\n");
+        fprintf(stderr, "Usage: bench [LIMIT [FEED_LIMIT [CHANGES_LIMIT [SPARING_LIMIT]]]], each a ratio over 0, or - for none, or bench once\n");
         return 2;
     }
     add_jobs();
