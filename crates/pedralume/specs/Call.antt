@@ -18,7 +18,7 @@ use Rattle.repaint.specs.Repaint.{repaintOf}
 use Rattle.repaint.specs.Sparing.{sparingOf}
 use Rattle.visible.specs.Changes.{changesOf}
 
--- the 64-bit number that replay, frame, both repaints and the list of changes give back: number, place, compared and differing, each in bits of its own
+-- the 64-bit number that replay, frame, both repaints and the list of changes give back: number, place, compared, differing, each in its own bits
 abbrev pub packed : ℕ → ℕ → ℕ → ℕ → ℕ
 packed number place compared differing = number + 256 * place + 2 ^ 24 * compared + 2 ^ 40 * differing
 

@@ -5,7 +5,7 @@ use native.Mathlib.Numerals.{add-one}
 use mathlib.Core.Path.{_≡_, refl, sym, ap, _∙_}
 use mathlib.Core.Bool.{Bool, true, false}
 use mathlib.Core.List.{List, [], _∷_, _++_, flatMap, append-assoc, append-nil}
-use lib.ListN.{length, take, drop, set, length-append}
+use lib.ListN.{length, take, drop, set}
 use lib.Seq.{sets-eq}
 use Rattle.basics.specs.Lists.{tabulated}
 use Rattle.basics.specs.Verdict.{Result, result}
@@ -16,7 +16,6 @@ use Rattle.sed1520.specs.Records.{recordBytes, recordsBytes}
 use Rattle.sed1520.specs.declared.registers.Chip.{Chip}
 use Rattle.sed1520.specs.declared.bus.Record.{Record}
 use Rattle.sed1520.proofs.Records.{bytes-append, bytes-length}
-use Rattle.frame.specs.Frame.{segments}
 use Rattle.repaint.specs.Sparing.{passesBefore, columnRecords, chosenColumns, chosenPage, chipRecords, putFront}
 use Rattle.repaint.proofs.Counts.{both-length, both-few}
 use Rattle.repaint.proofs.ChosenColumns.{cycles-few, columns-length, run-columns, chosen-length, chosen-few}
@@ -26,13 +25,20 @@ use Rattle.repaint.specs.Repaint.{columnSegment, pictureByte, columnWrit
 pub four-written : (l : List ℕ) (a b c d : ℕ) → 4 ≤ length l → set (set (set (set l 0 a) 1 b) 2 c) 3 d ≡ a ∷ b ∷ c ∷ d ∷ drop 4 l
 four-written l a b c d h = sets-eq (a ∷ b ∷ c ∷ d ∷ []) l 0 h
 
+-- what two results that are the same have in common
+pub answer-of : {one other : Result ℕ (List ℕ)} → one ≡ other → one .answer ≡ other .answer
+answer-of e = ap (λ (o : Result ℕ (List ℕ)). o .answer) e
+
+pub lent-of : {one other : Result ℕ (List ℕ)} → one ≡ other → one .lent ≡ other .lent
+lent-of e = ap (λ (o : Result ℕ (List ℕ)). o .lent) e
+
 -- records put to the front of the rest, lent as a part, and what all of them come to
 pub begun-put : (rs more : List Record) {old : List ℕ} {at : ℕ} {now : List ℕ} → Begun old (recordsBytes rs) at now
     → {n : ℕ} {part : List ℕ} → result n part ≡ putFront more (take (length now - at) (drop at now))
     → Begun old (recordsBytes (rs ++ more)) (at + n) (take at now ++ (part ++ drop (length now - at) (drop at now)))
 begun-put rs more begun {n} {part} e =
-    let many : n ≡ 4 * length more = ap (λ (o : Result ℕ (List ℕ)). o .answer) e in
-    let bytes = ap (λ (o : Result ℕ (List ℕ)). o .lent) e in
+    let many : n ≡ 4 * length more = answer-of e in
+    let bytes = lent-of e in
     rw (bytes-append rs more) (begun-rest begun (recordsBytes more) (bytes-length more ∙ sym many) (rw (← many) at bytes))
 
 pub begun-record : (rs : List Record) (r : Record) {old : List ℕ} {at : ℕ} {now : List ℕ} → Begun old (recordsBytes rs) at now
@@ -43,8 +49,8 @@ begun-record rs r begun e = rw (bytes-append rs (r ∷ [])) (begun-rest begun (r
 
 pub front-begun : (rs : List Record) {old : List ℕ} {n : ℕ} {now : List ℕ} → result n now ≡ putFront rs old → Begun old (recordsBytes rs) n now
 front-begun rs e =
-    let many = ap (λ (o : Result ℕ (List ℕ)). o .answer) e in
-    record { size = bytes-length rs ∙ sym many; bytes = ap (λ (o : Result ℕ (List ℕ)). o .lent) e ∙ rw many }
+    let many = answer-of e in
+    record { size = bytes-length rs ∙ sym many; bytes = lent-of e ∙ rw many }
 
 pub begun-front : (rs : List Record) {old : List ℕ} {at : ℕ} {now : List ℕ} → Begun old (recordsBytes rs) at now → result at now ≡ putFront rs old
 begun-front rs begun = let many = sym (begun .size) ∙ bytes-length rs in rw (begun .bytes, many)
@@ -93,7 +99,8 @@ module _ (c : Chip) (chip : ℕ) (picture : List ℕ) (r : ℕ) (test : ℕ → 
     -- the column is set, and then its writes come
     pub begun-run : {old : List ℕ} {at : ℕ} {now : List ℕ}
         → Begun old (recordsBytes (chosenColumns c chip picture r test 0 j ++ (columnSet c chip j ∷ []))) at now
-        → {bytes : ℕ} {part : List ℕ} → result bytes part ≡ putFront (tabulated (columnWrite c chip picture r) j n) (take (length now - at) (drop at now))
+        → {bytes : ℕ} {part : List ℕ}
+        → result bytes part ≡ putFront (tabulated (columnWrite c chip picture r) j n) (take (length now - at) (drop at now))
         → Begun old (recordsBytes (chosenColumns c chip picture r test 0 (j + n))) (at + bytes)
         (take at now ++ (part ++ drop (length now - at) (drop at now)))
     begun-run begun e =

@@ -1,29 +1,29 @@
--- Two repaints of one picture, sent whole from one panel, end in the same RAM and show the same; and a sparing repaint has no more cycles than it needs.
-use Prim.Native.Nat.{ℕ, zero, suc, _+_, _-_, _*_, _/_, _%_, _<_, _≤_}
+-- Two repaints of one picture, sent whole from one panel, end in the same RAM and show the same; and how few cycles a sparing repaint takes.
+use Prim.Native.Nat.{ℕ, zero, suc, _+_, _-_, _<_}
 use native.Mathlib.Omega.{arith}
 use mathlib.Core.Path.{_≡_, refl, sym, ap, _∙_}
 use mathlib.Core.Bool.{false, not}
-use mathlib.Core.List.{List, [], _++_}
+use mathlib.Core.List.{List, []}
 use mathlib.Core.Logic.{⊎-elim}
 use lib.Dec.{eqb, leb, ltb}
-use lib.ListN.{length, getD, take, drop, take-append-drop}
-use lib.Seq.{ext-getD}
+use lib.ListN.{length, take-append-drop}
 use borrow.Author.Tests.{eqb-true, eqb-false, leb-true, leb-false, ltb-true, ltb-false, eq-eqb}
 use Rattle.basics.proofs.Halves.{part-length}
 use Rattle.basics.proofs.Tests.{tested}
-use Rattle.sed1520.specs.Memory.{ramIndex, byteAt}
+use Rattle.sed1520.specs.Memory.{byteAt}
+use Rattle.sed1520.proofs.Cells.{same-cells}
 use Rattle.sed1520.specs.declared.registers.Chip.{Chip}
 use Rattle.panel.specs.Panel.{Panel, chipAt, ramAt}
 use Rattle.frame.specs.Frame.{segments, ramColumn}
 use Rattle.repaint.specs.Repaint.{hiddenPage, lowestColumn, columnSegment, pictureByte, repaintSizesWrong}
-use Rattle.repaint.specs.Sparing.{differs, chosenPage, sparingPages, sparingRecords, sparingCycles, sparingQuiet}
+use Rattle.repaint.specs.Sparing.{differs, chosenPage, sparingPages, sparingRecords, sparingQuiet}
 use Rattle.repaint.specs.SparingPromises.{BandHeld, CyclesCounted, EqualTakesTwo, sentWhole, EndAlike, NeverMore}
-use Rattle.repaint.specs.TearFree.{BothReady, Request, asked, sentSoFar, shown, wanted}
+use Rattle.repaint.specs.TearFree.{BothReady, Request, asked, shown, wanted}
 use Rattle.repaint.proofs.Small.{segment-small}
 use Rattle.repaint.proofs.ChosenColumns.{none-chosen}
 use Rattle.repaint.proofs.Counts.{sparing-length, sparing-few}
 use Rattle.repaint.proofs.Page.{InBand, segment-column, segment-twice}
-use Rattle.repaint.proofs.Plan.{Brought, Repaints}
+use Rattle.repaint.proofs.Plan.{Brought}
 use Rattle.repaint.proofs.ReadyChips.{ready-outcome, sparing-outcome}
 use Rattle.repaint.proofs.RepaintCases.{sizes-right}
 use Rattle.repaint.proofs.SparingCases.{cycles-counted}
@@ -77,11 +77,7 @@ module _ (p : Panel) (picture : List ℕ) where
         (λ out. one .others k side page column h out ∙ sym (other .others k side page column h out))
 
     same-part : length (s .ram) ≡ 640 → length (t .ram) ≡ 640 → ramAt s k ≡ ramAt t k
-    unfolding ramIndex
-    same-part l m =
-        ext-getD 0 (ramAt s k) (ramAt t k) (part-length 320 k (s .ram) l ∙ sym (part-length 320 k (t .ram) m))
-        (λ i h. let at : i ≡ 80 * (i / 80) + i % 80 = omega arith in
-        let same = same-byte (i / 80) (i % 80) (omega arith) in rw (← at) at same)
+    same-part l m = same-cells (ramAt s k) (ramAt t k) (part-length 320 k (s .ram) l) (part-length 320 k (t .ram) m) same-byte
 
   same-ram : (s t : Panel) → Brought p picture s → Brought p picture t → length (s .ram) ≡ 640 → length (t .ram) ≡ 640 → s .ram ≡ t .ram
   same-ram s t one other l m =

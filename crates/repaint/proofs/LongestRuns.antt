@@ -20,7 +20,7 @@ use Rattle.sed1520.specs.declared.bus.Record.{Record}
 use Rattle.frame.specs.Frame.{segments}
 use Rattle.repaint.specs.Repaint.{columnWrite, columnSet, runRecords}
 use Rattle.repaint.specs.Sparing.{passesBefore, begins, columnRecords, chosenColumns, chosenPage}
-use Rattle.repaint.specs.SparingPromises.{Stretch, LongestRun, LongestRuns, recordsByRuns, ByLongestRuns, EveryPageByRuns}
+use Rattle.repaint.specs.SparingPromises.{Stretch, LongestRuns, recordsByRuns, EveryPageByRuns}
 use Rattle.repaint.proofs.ChosenColumns.{none-counted, some-counted, columns-length}
 
 -- whether a run is open, by how long it is so far

@@ -10,7 +10,7 @@ use Rattle.basics.proofs.Run.{Stops, stops-join, state-join}
 use Rattle.sed1520.specs.Memory.{byteAt}
 use Rattle.panel.specs.Panel.{Panel, chipAt, ramAt, panelStep, after}
 use Rattle.sed1520.specs.declared.bus.Record.{Record}
-use Rattle.frame.specs.Frame.{segments, ramColumn}
+use Rattle.frame.specs.Frame.{ramColumn}
 use Rattle.frame.proofs.HalfLaws.{half-laws}
 use Rattle.repaint.specs.Repaint.{hiddenPage, lowestColumn, columnSegment, pictureByte, hiddenPages}
 use Rattle.repaint.specs.Sparing.{chosenPage, differs, sparingPages}

@@ -133,7 +133,8 @@ module _
         })
 
   -- a column that does not pass
-  none-written : (q : Panel) (j n : ℕ) → Quiet p q → Stands q (j + n) → ((i : ℕ) → j ≤ i → i < j + n → test i ≡ true → ⊥) → Wrote [] q (after q []) j n
+  none-written : (q : Panel) (j n : ℕ) → Quiet p q → Stands q (j + n) → ((i : ℕ) → j ≤ i → i < j + n → test i ≡ true → ⊥)
+      → Wrote [] q (after q []) j n
   none-written q j n quiet stands none =
       rw (state-none panelStep q)
       (record {

@@ -2,7 +2,7 @@
 -- n, the first n - 2 records show the panel as it was, the next one the left half of the picture, and the last one the whole.
 use Prim.Native.Nat.{ℕ, zero, suc, _+_, _<_, _≤_}
 use native.Mathlib.Omega.{arith}
-use mathlib.Core.Path.{_≡_, refl, sym, _∙_}
+use mathlib.Core.Path.{_≡_, _∙_}
 use mathlib.Core.Bool.{true≢false, false≢true}
 use mathlib.Core.List.{List, [], _∷_, _++_}
 use lib.ListN.{length, getD, take, replicate, length-append, length-replicate}
@@ -15,7 +15,7 @@ use Rattle.frame.specs.Frame.{frameLength, frameOf}
 use Rattle.frame.proofs.HalfLaws.{half-laws}
 use Rattle.repaint.specs.Repaint.{pictureLength, turn, lineTurns}
 use Rattle.repaint.specs.TearFree.{BothReady, SameHalf, wanted}
-use Rattle.repaint.proofs.Quiet.{Quiet, Still, still-ready, ready-at, quiet-at, quiet-ready, quiet-frame, half-same, halves-same}
+use Rattle.repaint.proofs.Quiet.{Quiet, Still, quiet-at, quiet-ready, quiet-frame, half-same, halves-same}
 use Rattle.repaint.specs.SparingPromises.{BandHeld}
 use Rattle.repaint.proofs.Page.{InBand}
 use Rattle.repaint.proofs.Turn.{Turned, TurnDone, turn-done, half-wanted}

@@ -41,4 +41,5 @@ pub sparing-outcome : (p : Panel) → BothReady p → (picture buffer : List ℕ
     → let n = sparingCycles p picture in
     sparingOf p picture buffer ≡ result (verdict 0 n) (recordsBytes (sparingRecords p picture) ++ drop (4 * n) buffer)
 unfolding sparingOf
-sparing-outcome p ready picture buffer sizes = rw (ready .ram, sizes) (ready-passes (p .left) (p .right) (ready .left) (ready .right) (λ n at. result (verdict n at) buffer) _)
+sparing-outcome p ready picture buffer sizes =
+    rw (ready .ram, sizes) (ready-passes (p .left) (p .right) (ready .left) (ready .right) (λ n at. result (verdict n at) buffer) _)

@@ -1,7 +1,7 @@
 -- The sparing repaint's call, case by case: its own numbers, and how large a place can be.
 use Prim.Native.Nat.{ℕ, _*_, _/_, _<_, _≤_}
 use native.Mathlib.Omega.{arith}
-use mathlib.Core.Path.{_≡_, sym, ap, _∙_}
+use mathlib.Core.Path.{_≡_, sym, _∙_}
 use mathlib.Core.Bool.{true, false, not}
 use mathlib.Core.List.{List, _++_}
 use mathlib.Core.Logic.{inr}
@@ -18,6 +18,7 @@ use Rattle.panel.specs.Panel.{imageLength, Panel}
 use Rattle.repaint.specs.Numbers.{SparingNumbers}
 use Rattle.repaint.specs.Repaint.{pictureLength, lineTurns, repaintSizesWrong, chipsVerdict}
 use Rattle.repaint.specs.Sparing.{sparingPages, sparingRecords, sparingCycles, putFront, sparingSizesWrong, sparingTable, sparingOf}
+use Rattle.repaint.proofs.Bytes.{answer-of, lent-of}
 use Rattle.repaint.proofs.Counts.{sparing-length, sparing-few}
 use Rattle.repaint.proofs.RepaintCases.{sizes-right, chip-refused, chips-pass}
 
@@ -63,9 +64,9 @@ module _ (p : Panel) (picture buffer : List ℕ) where
     unfolding sparingOf
     accepted zero {n} written =
         let counted = cycles-counted p picture in
-        let many = ap (λ (o : Result ℕ (List ℕ)). o .answer) written in
+        let many = answer-of written in
         let place : n / 4 ≡ sparingCycles p picture = omega (arith, many, counted) in
-        let bytes = rw counted at (ap (λ (o : Result ℕ (List ℕ)). o .lent) written) in
+        let bytes = rw counted at (lent-of written) in
         rw (place, bytes)
         (sym (none-refuses (λ n at. result (verdict n at) buffer) given table (sizes, chips-pass (p .left) (p .right) v e zero)))
 

@@ -1,13 +1,13 @@
 -- Demand 3: of every repaint of a list, sparing or not, each stopped after any whole cycle, only the last two cycles change what the panel shows.
 use Prim.Native.Nat.{ℕ, _+_, _*_, _<_, _≤_}
 use native.Mathlib.Omega.{arith}
-use mathlib.Core.Path.{_≡_, refl, sym, ap, _∙_}
+use mathlib.Core.Path.{_≡_, refl, sym, _∙_}
 use mathlib.Core.Bool.{Bool, true, false}
 use mathlib.Core.List.{List, [], _∷_, _++_, map}
 use mathlib.Core.Logic.{⊎-elim}
 use lib.Dec.{ltb}
 use lib.ListN.{length, getD, take, drop}
-use borrow.Author.Tests.{ltb-true, ltb-false, le-ltb}
+use borrow.Author.Tests.{ltb-false, le-ltb}
 use Rattle.basics.specs.Choice.{if}
 use Rattle.basics.specs.Verdict.{verdict, result}
 use Rattle.basics.proofs.Run.{accepted-at}
@@ -114,10 +114,11 @@ module _ (p : Panel) (ready : BothReady p) where
   refused : (sparing : Bool) (q : Request) → q .sparing ≡ sparing → repaintSizesWrong (length (q .picture)) (length (q .buffer)) ≡ true
       → Refused p (asked p q)
   unfolding repaintOf sparingOf
-  refused false q is wrong = record { number = rw (is, wrong); place = rw (is, wrong); buffer = rw (is, wrong); stays = rw (is, wrong); frame = frame-given p ready }
-  refused true q is wrong =
-      let ram = ready .ram in
-      record { number = rw (is, ram, wrong); place = rw (is, ram, wrong); buffer = rw (is, ram, wrong); stays = rw (is, ram, wrong); frame = frame-given p ready }
+  refused false q is e =
+      record { number = rw (is, e); place = rw (is, e); buffer = rw (is, e); stays = rw (is, e); frame = frame-given p ready }
+  refused true q is e =
+      let m = ready .ram in
+      record { number = rw (is, m, e); place = rw (is, m, e); buffer = rw (is, m, e); stays = rw (is, m, e); frame = frame-given p ready }
 
   safe : (q : Request) → Safe p (asked p q)
   safe q = (refused (q .sparing) q refl, accepted q)

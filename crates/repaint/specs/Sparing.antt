@@ -17,7 +17,8 @@ use Rattle.sed1520.specs.declared.registers.Chip.{Chip}
 use Rattle.sed1520.specs.declared.bus.Record.{Record}
 use Rattle.panel.specs.Panel.{imageLength, Panel, ramAt}
 use Rattle.frame.specs.Frame.{segments}
-use Rattle.repaint.specs.Repaint.{hiddenPage, lowestColumn, columnSegment, pictureByte, pageSet, columnWrite, columnSet, lineTurns, repaintSizesWrong, readyTable}
+use Rattle.repaint.specs.Repaint.{hiddenPage, lowestColumn, columnSegment, pictureByte, pageSet, columnWrite, columnSet, lineTurns}
+use Rattle.repaint.specs.Repaint.{repaintSizesWrong, readyTable}
 
 -- whether, in a chip's 320 bytes, the byte of shown column j of the hidden page for band r differs from the picture's
 abbrev pub differs : Chip → ℕ → List ℕ → List ℕ → ℕ → ℕ → Bool
@@ -87,14 +88,14 @@ sparingSizesWrong ram picture buffer = not (eqb ram imageLength) || repaintSizes
 abbrev pub sparingTable : Chip → Chip → ℕ → ℕ → ℕ → List Cause
 sparingTable left right ram picture buffer = cause 1 0 (sparingSizesWrong ram picture buffer) ∷ readyTable left right
 
--- the sparing repaint's call: its numbers, which leave the buffer as it came, else the records, with the count of cycles as place (CyclesCounted: they
--- are as many) and the rest of the buffer as it was
+-- the sparing repaint's call: its numbers, which leave the buffer as it came, else the records, with the count of cycles as place (CyclesCounted:
+-- they are as many) and the rest of the buffer as it was
 unfoldable pub sparingOf : Panel → List ℕ → List ℕ → Result Verdict (List ℕ)
 sparingOf p picture buffer =
     unlessRefused (sparingTable (p .left) (p .right) (length (p .ram)) (length picture) (length buffer)) (λ n at. result (verdict n at) buffer)
     (result (verdict 0 (sparingCycles p picture)) (recordsBytes (sparingRecords p picture) ++ drop (4 * sparingCycles p picture) buffer))
 
--- what a function gives that puts records to the front of a buffer with room for them: how many bytes they are, and the rest of the buffer as it was
+-- what a function gives that puts records to the front of a buffer with room for them: how many bytes they are, and the rest as it was
 abbrev pub putFront : List Record → List ℕ → Result ℕ (List ℕ)
 putFront records buffer = result (4 * length records) (recordsBytes records ++ drop (4 * length records) buffer)
 

@@ -56,7 +56,7 @@ pub record Request : Type 0 where
 abbrev pub quietOf : Panel → Request → ℕ
 quietOf p q = if (q .sparing) (sparingQuiet p (q .picture)) quietCycles
 
--- a repaint called with the chips as they stand, the sparing one lent the RAM as it stands; a stop after more cycles than it has comes after all of them
+-- a repaint called with the chips as they stand, the sparing one lent the RAM as it stands; a stop after more cycles than it has comes after all
 abbrev pub asked : Panel → Request → Sending
 asked p q =
     let n = quietOf p q + 2 in

@@ -98,7 +98,8 @@ fn put_columns(
     requires { ⌜ first ≡ nextColumn (differs chip which (now ram) (now picture) band) true 0 segments ⌝ }
     requires { ⌜ 4 + writesLength ≤ length (now output) ⌝ }
     ensures { λ r. ⌜ result r (now (output .exit))
-        ≡ putFront (chosenColumns chip which (now (picture .entry)) band (differs chip which (now (ram .entry)) (now (picture .entry)) band) 0 segments)
+        ≡ putFront
+        (chosenColumns chip which (now (picture .entry)) band (differs chip which (now (ram .entry)) (now (picture .entry)) band) 0 segments)
         (now (output .entry)) ⌝ }
 {
     let mut at = 0;

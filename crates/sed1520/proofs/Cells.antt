@@ -1,11 +1,11 @@
--- The byte of a page and a column: it lies within the RAM, that of the next column comes next, those of two pages or columns lie apart, and what is
--- read after a write.
-use Prim.Native.Nat.{ℕ, _+_, _-_, _<_, _≤_}
+-- The byte of a page and a column: it lies within the RAM, that of the next column comes next, those of two pages or columns lie apart, every byte of
+-- the RAM is one, and what is read after a write.
+use Prim.Native.Nat.{ℕ, _+_, _-_, _*_, _/_, _%_, _<_, _≤_}
 use native.Mathlib.Omega.{arith}
-use mathlib.Core.Path.{_≡_}
+use mathlib.Core.Path.{_≡_, sym, _∙_}
 use mathlib.Core.List.{List}
 use lib.ListN.{length}
-use lib.Seq.{getD-set-same, getD-set-other}
+use lib.Seq.{getD-set-same, getD-set-other, ext-getD}
 use Rattle.sed1520.specs.Memory.{ramIndex, byteAt, byteSet}
 
 pub within-ram : (page column : ℕ) → page < 4 → column < 80 → ramIndex page column < 320
@@ -24,6 +24,14 @@ pub same-cell : (page column page′ column′ : ℕ) → column < 80 → column
     → (page ≡ page′) × (column ≡ column′)
 unfolding ramIndex
 same-cell page column page′ column′ h l e = (omega arith, omega arith)
+
+-- two RAMs that have the same byte at every page and column
+pub same-cells : (one other : List ℕ) → length one ≡ 320 → length other ≡ 320
+    → ((page column : ℕ) → column < 80 → byteAt one page column ≡ byteAt other page column) → one ≡ other
+unfolding ramIndex
+same-cells one other l m same =
+    ext-getD 0 one other (l ∙ sym m)
+    (λ i h. let at : i ≡ 80 * (i / 80) + i % 80 = omega arith in let here = same (i / 80) (i % 80) (omega arith) in rw (← at) at here)
 
 module _ (ram : List ℕ) (page column b : ℕ) (near : column < 80) where
   pub read-written : length ram ≡ 320 → page < 4 → byteAt (byteSet ram page column b) page column ≡ b

@@ -1,6 +1,6 @@
 -- `repaint::chip_plan::put_page` meets its contract, part by part.
 use mathlib.Core.Path.{refl}
-use mathlib.Core.List.{[], _∷_, flatMap}
+use mathlib.Core.List.{flatMap}
 use borrow.Author.Needs.{needs}
 use Rattle.basics.proofs.Filling.{begun-first, begun-rest}
 use Rattle.sed1520.specs.Records.{recordBytes}

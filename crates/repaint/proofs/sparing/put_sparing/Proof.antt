@@ -1,17 +1,15 @@
 -- `repaint::sparing::put_sparing` meets its contract, part by part.
-use Prim.Native.Nat.{ℕ, _+_, _-_, _≤_}
+use Prim.Native.Nat.{_+_, _-_, _≤_}
 use native.Mathlib.Omega.{arith}
-use mathlib.Core.Path.{_≡_, ap}
-use mathlib.Core.List.{List, [], _∷_, _++_, append-assoc}
+use mathlib.Core.Path.{_≡_}
+use mathlib.Core.List.{[], _∷_, _++_, append-assoc}
 use lib.ListN.{length, take, drop, length-take, length-drop}
 use borrow.Author.Needs.{needs}
-use Rattle.basics.specs.Verdict.{Result}
 use Rattle.basics.proofs.Parts.{rest}
-use Rattle.sed1520.specs.declared.bus.Record.{Record}
 use Rattle.panel.specs.Panel.{asPanel, ramAt}
 use Rattle.repaint.specs.Repaint.{turn}
-use Rattle.repaint.specs.Sparing.{chipRecords, sparingRecords, putFront}
-use Rattle.repaint.proofs.Bytes.{front-begun, begun-put, begun-record, begun-front, both-bytes}
+use Rattle.repaint.specs.Sparing.{chipRecords, sparingRecords}
+use Rattle.repaint.proofs.Bytes.{answer-of, front-begun, begun-put, begun-record, begun-front, both-bytes}
 use Rattle.repaint.proofs.sparing.put_sparing.Statement.{statement}
 use Rattle.repaint.proofs.sparing.put_sparing.Tie as tie
 
@@ -20,13 +18,13 @@ left-few : (c : tie.After-put-changed-pages) → c .put-changed-pages .result �
 left-few c =
     let at = c .before .before .before .before .before .before .args in
     both-bytes (at .left) 0 (ramAt (asPanel (at .left) (at .right) (at .ram .now)) 0) (at .picture .now)
-    (ap (λ (o : Result ℕ (List ℕ)). o .answer) (c .put-changed-pages .ensures))
+    (answer-of (c .put-changed-pages .ensures))
 
 right-few : (c : tie.After-put-changed-pages2) → c .put-changed-pages2 .result ≤ 504
 right-few c =
     let at = c .before .before .before .before .before .before .before .before .before .before .before .args in
     both-bytes (at .right) 1 (take (length (at .ram .now) - 320) (drop 320 (at .ram .now))) (at .picture .now)
-    (ap (λ (o : Result ℕ (List ℕ)). o .answer) (c .put-changed-pages2 .ensures))
+    (answer-of (c .put-changed-pages2 .ensures))
 
 pages-few : (c : tie.After-slice-known3) → let right = c .before .before in
     right .before .before .before .before .before .put-changed-pages .result + right .put-changed-pages2 .result ≤ 1008

@@ -1,5 +1,5 @@
 -- `repaint::sparing_page::column_differs` meets its contract.
-use Prim.Native.Nat.{_+_, _<_}
+use Prim.Native.Nat.{_+_}
 use native.Mathlib.Omega.{arith}
 use borrow.Author.Needs.{needs}
 use Rattle.sed1520.proofs.Cells.{within-ram}

@@ -3,7 +3,6 @@ use Prim.Native.Nat.{suc, _+_, _-_}
 use native.Mathlib.Omega.{arith}
 use mathlib.Core.Path.{_≡_, refl, sym, _∙_}
 use mathlib.Core.Bool.{true}
-use borrow.Author.Needs.{needs}
 use Rattle.frame.specs.Frame.{segments}
 use Rattle.repaint.specs.Sparing.{differs, nextColumn}
 use Rattle.repaint.proofs.ChosenColumns.{next-here, next-later}

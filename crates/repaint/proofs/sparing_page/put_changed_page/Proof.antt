@@ -1,17 +1,16 @@
 -- `repaint::sparing_page::put_changed_page` meets its contract: nothing, or the page and then the columns.
 use Prim.Native.Nat.{ℕ}
 use native.Mathlib.Omega.{arith}
-use mathlib.Core.Path.{refl, ap}
+use mathlib.Core.Path.{refl}
 use mathlib.Core.Bool.{Bool, true}
-use mathlib.Core.List.{List, [], _∷_, flatMap}
+use mathlib.Core.List.{[], _∷_, flatMap}
 use borrow.Author.Needs.{needs}
-use Rattle.basics.specs.Verdict.{Result}
 use Rattle.basics.proofs.Filling.{begun-first}
 use Rattle.sed1520.specs.Records.{recordsBytes}
 use Rattle.frame.specs.Frame.{segments}
 use Rattle.repaint.specs.Repaint.{pageSet}
 use Rattle.repaint.specs.Sparing.{differs, chosenColumns, chosenPage}
-use Rattle.repaint.proofs.Bytes.{begun-put, begun-front}
+use Rattle.repaint.proofs.Bytes.{answer-of, begun-put, begun-front}
 use Rattle.repaint.proofs.ChosenColumns.{none-counted, some-counted, Next, next-is, at-most-one, cycles-few, columns-length}
 use Rattle.repaint.proofs.sparing_page.put_changed_page.Statement.{statement}
 use Rattle.repaint.proofs.sparing_page.put_changed_page.Tie as tie
@@ -35,7 +34,7 @@ add-result c =
     let put = c .before .before in
     let s = start (put .before .before .before .before .before .before .before) in
     let at = s .args in
-    let many = ap (λ (o : Result ℕ (List ℕ)). o .answer) (put .put-columns .ensures) in
+    let many = answer-of (put .put-columns .ensures) in
     omega (
       arith,
       many,

@@ -1,15 +1,13 @@
 -- `repaint::sparing_page::put_changed_pages` meets its contract: the lower page, then the upper one.
 use Prim.Native.Nat.{ℕ, _≤_}
 use native.Mathlib.Omega.{arith}
-use mathlib.Core.Path.{ap}
 use mathlib.Core.Bool.{Bool}
 use mathlib.Core.List.{List, _++_}
 use lib.ListN.{length-take, length-drop}
 use borrow.Author.Needs.{needs}
-use Rattle.basics.specs.Verdict.{Result}
 use Rattle.sed1520.specs.declared.bus.Record.{Record}
 use Rattle.repaint.specs.Sparing.{differs, chosenPage}
-use Rattle.repaint.proofs.Bytes.{front-begun, begun-put, begun-front, chosen-bytes}
+use Rattle.repaint.proofs.Bytes.{answer-of, front-begun, begun-put, begun-front, chosen-bytes}
 use Rattle.repaint.proofs.sparing_page.put_changed_pages.Statement.{statement}
 use Rattle.repaint.proofs.sparing_page.put_changed_pages.Tie as tie
 
@@ -25,13 +23,13 @@ first-few : (c : tie.After-put-changed-page) → c .put-changed-page .result ≤
 first-few c =
     let start = c .before .before .before .before .before in
     let at = start .args in
-    chosen-bytes (at .chip) (at .which) (at .picture .now) 0 (test start 0) (ap (λ (o : Result ℕ (List ℕ)). o .answer) (c .put-changed-page .ensures))
+    chosen-bytes (at .chip) (at .which) (at .picture .now) 0 (test start 0) (answer-of (c .put-changed-page .ensures))
 
 second-few : (c : tie.After-put-changed-page2) → c .put-changed-page2 .result ≤ 252
 second-few c =
     let start = c .before .before .before .before .before .before .before .before .before in
     let at = start .args in
-    chosen-bytes (at .chip) (at .which) (at .picture .now) 1 (test start 1) (ap (λ (o : Result ℕ (List ℕ)). o .answer) (c .put-changed-page2 .ensures))
+    chosen-bytes (at .chip) (at .which) (at .picture .now) 1 (test start 1) (answer-of (c .put-changed-page2 .ensures))
 
 put-changed-page-requires-2 : tie.Need-put-changed-page-requires-2
 put-changed-page-requires-2 c κs =

@@ -3,18 +3,17 @@ use Prim.Native.Nat.{ℕ, _+_, _-_, _*_, _/_, _<_, _≤_}
 use native.Mathlib.Omega.{arith}
 use mathlib.Core.Path.{_≡_, refl, sym, ap, _∙_}
 use mathlib.Core.Bool.{Bool, true, false, true≢false}
-use mathlib.Core.List.{List, flatMap}
+use mathlib.Core.List.{flatMap}
 use lib.ListN.{length, length-take, length-drop}
 use borrow.Author.Needs.{needs}
 use Rattle.basics.specs.Lists.{joined}
-use Rattle.basics.specs.Verdict.{Result}
 use Rattle.basics.proofs.Lists.{tabulated-length}
 use Rattle.basics.proofs.Filling.{Begun, begun-none}
 use Rattle.sed1520.specs.Records.{recordsBytes}
 use Rattle.frame.specs.Frame.{segments}
 use Rattle.repaint.specs.Sparing.{differs, passesBefore, chosenColumns, nextColumn}
 use Rattle.repaint.specs.Repaint.{columnWrite, columnSet}
-use Rattle.repaint.proofs.Bytes.{begun-record, columns-fit, begun-run, begun-front}
+use Rattle.repaint.proofs.Bytes.{answer-of, begun-record, columns-fit, begun-run, begun-front}
 use Rattle.repaint.proofs.RunByRun.{Begins, Goes, run-goes, run-begins, gap-passed, gap-records}
 use Rattle.repaint.proofs.sparing_page.put_columns.Statement.{statement}
 use Rattle.repaint.proofs.sparing_page.put_columns.Tie as tie
@@ -84,7 +83,7 @@ bytes-are : (c : tie.After-put-run-writes Inv-loop μ-loop) → c .put-run-write
 bytes-are c =
     let at = start c .args in
     let run = turn c .before .loop .run in
-    ap (λ (o : Result ℕ (List ℕ)). o .answer) (c .put-run-writes .ensures)
+    answer-of (c .put-run-writes .ensures)
     ∙ ap (λ n. 4 * n) (tabulated-length (columnWrite (at .chip) (at .which) (at .picture .now) (at .band)) run (end c - run))
 
 past : (c : tie.After-put-run-writes Inv-loop μ-loop) → turn c .before .loop .run + c .put-run-writes .result / 4 ≡ end c
@@ -93,12 +92,14 @@ past c = let run = goes c in omega (arith, bytes-are c, run .longer)
 next-changed-requires : tie.Need-next-changed-requires Inv-loop μ-loop
 next-changed-requires c κs = let pre = start (c .before .before) .pre in (pre .0, (pre .1 .0, pre .1 .1 .0))
 
--- the next run begins at the next column that passes, which is past the end of this one; there no run begins
+-- the next run begins at the next column that passes
 next : (c : tie.After-next-changed Inv-loop μ-loop) → let put = c .before .before .before in
     c .next-changed .result ≡ nextColumn (test (start put)) true (end put) (segments - end put)
 next c = let put = c .before .before .before in let e = past put in c .next-changed .ensures ∙ rw e
 
-ended : (c : tie.After-put-run-writes Inv-loop μ-loop) → end c < segments → test (start c) (end c) ≡ true → passesBefore (test (start c)) (end c) ≡ false
+-- which is not the column past this one, since that does not pass
+ended : (c : tie.After-put-run-writes Inv-loop μ-loop) → end c < segments → test (start c) (end c) ≡ true
+    → passesBefore (test (start c)) (end c) ≡ false
 ended c h passes = absurd (true≢false (sym passes ∙ goes c .ends h))
 
 loop-less : tie.Need-loop-less Inv-loop μ-loop

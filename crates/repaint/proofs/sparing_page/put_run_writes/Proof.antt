@@ -5,14 +5,13 @@ use mathlib.Core.Path.{_≡_, refl, sym, ap, _∙_}
 use mathlib.Core.Bool.{Bool, false}
 use mathlib.Core.List.{flatMap}
 use lib.ListN.{length, length-take, length-drop}
-use borrow.Author.Needs.{needs}
 use borrow.Author.Tests.{not-true, not-false}
 use Rattle.basics.specs.Lists.{joined, tabulated}
 use Rattle.basics.specs.Verdict.{result}
 use Rattle.basics.proofs.Filling.{Begun, begun-none, begun-length}
 use Rattle.frame.specs.Frame.{segments}
 use Rattle.repaint.specs.Repaint.{columnSegment, columnWrite}
-use Rattle.repaint.specs.Sparing.{differs, putFront, nextColumn}
+use Rattle.repaint.specs.Sparing.{differs, putFront, nextColumn, runWrites}
 use Rattle.repaint.proofs.Bytes.{written, written-length, begun-write, begun-front}
 use Rattle.repaint.proofs.ChosenColumns.{next-here, next-later}
 use Rattle.repaint.proofs.Small.{segment-small}
@@ -56,12 +55,13 @@ more j h = omega arith
 
 -- the writes are those up to the column where the run ends
 ended : (l : tie.At-loop Inv-loop μ-loop) → let start = l .before .before .before .before in let at = start .args in
-    nextColumn (test start) false (at .from) (segments - at .from) ≡ l .loop .column → let writes = tabulated (columnWrite (at .chip) (at .which) (at .picture .now) (at .band)) (at .from) in
-    result (l .loop .bytes) (l .loop .output) ≡ putFront (writes (nextColumn (test start) false (at .from) (segments - at .from) - at .from)) (at .output .now)
+    nextColumn (test start) false (at .from) (segments - at .from) ≡ l .loop .column
+    → result (l .loop .bytes) (l .loop .output)
+    ≡ putFront (runWrites (at .chip) (at .which) (at .picture .now) (at .band) (test start) (at .from)) (at .output .now)
 ended l ends =
     let at = l .before .before .before .before .args in
-    begun-front (tabulated (columnWrite (at .chip) (at .which) (at .picture .now) (at .band)) (at .from) (l .loop .column - at .from)) (l .loop .inv .0)
-    ∙ rw ends
+    let writes = tabulated (columnWrite (at .chip) (at .which) (at .picture .now) (at .band)) (at .from) (l .loop .column - at .from) in
+    begun-front writes (l .loop .inv .0) ∙ rw ends
 
 same-length : tie.Need-same-length Inv-loop μ-loop
 same-length c = c .before .before .before .loop .inv .1 .1 .1 .1
