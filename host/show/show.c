@@ -333,8 +333,8 @@ static bool send_repaint(struct run *run, const struct options *options, const s
     return send_part(run, made->records, count * RECORD, kept);
 }
 
-/* What a sparing repaint takes of a whole one's cycles, as a last line; it says nothing of one that is not sparing. */
-static bool tell_sparing(const struct options *options, const struct repaint *made)
+/* How many of 254 cycles a sparing repaint takes, as a last line; nothing where it is not sparing. */
+static bool print_cycles(const struct options *options, const struct repaint *made)
 {
     if (options->sparing == NULL || to_standard_output(options) > 0)
         return true;
@@ -425,7 +425,7 @@ static bool show_trace(const struct options *options)
     if (!write_files(options, &run, &records))
         return false;
     struct batch batch = { &before, records.at, records.length / RECORD };
-    return (again ? show_again(options, &batch) : show_panel(options, &run)) && tell_sparing(options, &made);
+    return (again ? show_again(options, &batch) : show_panel(options, &run)) && print_cycles(options, &made);
 }
 
 /* ---- wear ---- */
@@ -452,7 +452,7 @@ static bool show_wear(const struct options *options)
     if (!count_stores(&run, options, &records, &wear, &made))
         return false;
     bool shown = write_files(options, &run, &records) && (options->pgm == NULL || write_wear(options->pgm, &wear))
-              && (to_standard_output(options) > 0 || print_wear(&wear, &run)) && tell_sparing(options, &made);
+              && (to_standard_output(options) > 0 || print_wear(&wear, &run)) && print_cycles(options, &made);
     return end_run(&run) && shown;
 }
 

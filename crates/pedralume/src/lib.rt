@@ -58,8 +58,8 @@ pub extern "C" fn pedralume_repaint(chips: &[u8], picture: &[u8], output: &mut [
     pack(painted.number, painted.place, 0, 0)
 }
 
-// The records that bring a picture to the panel of the chips' bytes and the image, those bytes alone that differ from it, into
-// an output buffer.
+// The records of a sparing repaint, which brings a picture to the panel of the chips' bytes and the image, into an output
+// buffer.
 #[no_mangle]
 pub extern "C" fn pedralume_sparing_repaint(
     chips: &[u8],

@@ -17,7 +17,7 @@ use Rattle.sed1520.specs.declared.registers.Chip.{Chip}
 use Rattle.sed1520.specs.declared.bus.Record.{Record}
 use Rattle.sed1520.proofs.Records.{bytes-append, bytes-length}
 use Rattle.repaint.specs.Sparing.{passesBefore, columnRecords, chosenColumns, chosenPage, chipRecords, putFront}
-use Rattle.repaint.proofs.Counts.{both-length, both-few}
+use Rattle.repaint.proofs.Counts.{chip-length, chip-few}
 use Rattle.repaint.proofs.ChosenColumns.{cycles-few, columns-length, run-columns, chosen-length, chosen-few}
 use Rattle.repaint.specs.Repaint.{columnSegment, pictureByte, columnWrite, columnSet, runRecords, pageRecords, turn, repaintRecords}
 
@@ -115,8 +115,8 @@ pub chosen-bytes : (c : Chip) (chip : ℕ) (picture : List ℕ) (r : ℕ) (test 
 chosen-bytes c chip picture r test many = omega (arith, many, chosen-length test c chip picture r, chosen-few test)
 
 -- both pages of a chip take 504 bytes at most
-pub both-bytes : (c : Chip) (chip : ℕ) (ram picture : List ℕ) {n : ℕ} → n ≡ 4 * length (chipRecords c chip ram picture) → n ≤ 504
-both-bytes c chip ram picture many = omega (arith, many, both-length c chip ram picture, both-few c chip ram picture)
+pub chip-bytes : (c : Chip) (chip : ℕ) (ram picture : List ℕ) {n : ℕ} → n ≡ 4 * length (chipRecords c chip ram picture) → n ≤ 504
+chip-bytes c chip ram picture many = omega (arith, many, chip-length c chip ram picture, chip-few c chip ram picture)
 
 -- the six parts in the order in which they are written
 abbrev pub pageBytes : List ℕ → Chip → ℕ → ℕ → List ℕ

@@ -4,12 +4,12 @@ use Prim.Native.Nat.{ℕ, zero, suc, _+_, _<_, _≤_}
 use native.Mathlib.Omega.{arith}
 use native.Mathlib.Numerals.{add-one}
 use mathlib.Core.Path.{_≡_, refl, sym, ap, _∙_}
-use mathlib.Core.Bool.{Bool, true, false, not, _&&_, Bool·beq, true≢false, false≢true}
+use mathlib.Core.Bool.{Bool, true, false, not, _&&_, true≢false}
 use mathlib.Core.List.{List, [], _∷_, _++_}
 use mathlib.Core.Logic.{⊎-elim}
 use lib.Dec.{eqb}
 use lib.ListN.{length, length-append}
-use borrow.Author.Tests.{eqb-true, eqb-false, ne-eqb}
+use borrow.Author.Tests.{ne-eqb}
 use Rattle.basics.specs.Choice.{if}
 use Rattle.basics.specs.Counts.{sumBelow, countBelow}
 use Rattle.basics.specs.Lists.{joined, tabulated}
@@ -20,7 +20,7 @@ use Rattle.sed1520.specs.declared.registers.Chip.{Chip}
 use Rattle.sed1520.specs.declared.bus.Record.{Record}
 use Rattle.frame.specs.Frame.{segments}
 use Rattle.repaint.specs.Repaint.{columnWrite, columnSet, runRecords, pageRecords}
-use Rattle.repaint.specs.Sparing.{passesBefore, begins, columnRecords, chosenColumns, chosenPage, chosenCycles, nextColumn}
+use Rattle.repaint.specs.Sparing.{passesBefore, begins, columnRecords, chosenColumns, chosenPage, chosenCycles}
 
 pub at-most-one : (t : Bool) → if t 1 0 ≤ 1
 at-most-one t = when (λ (n : ℕ). n ≤ 1) t (λ _. omega arith) (λ _. omega arith)
@@ -141,64 +141,3 @@ every-counted (suc n) = rw (every-counted n) (omega arith)
 pub all-chosen : (c : Chip) (k : ℕ) (picture : List ℕ) (r : ℕ) → chosenPage c k picture r every ≡ pageRecords c k picture r
 unfolding chosenPage pageRecords
 all-chosen c k picture r = rw (every-counted segments, run-columns c k picture r every 60 0 refl (λ i h b. refl))
-
--- the column looked for is this one, or one further on
-equal-values : (a : Bool) → Bool·beq a a ≡ true
-equal-values true = refl
-equal-values false = refl
-
-other-values : (a : Bool) → Bool·beq (not a) a ≡ false
-other-values true = refl
-other-values false = refl
-
-module _ (test : ℕ → Bool) (value : Bool) (j : ℕ) {n m : ℕ} (more : n ≡ suc m) where
-  pub next-here : test j ≡ value → nextColumn test value j n ≡ j
-  unfolding nextColumn
-  next-here found = rw (more, found, equal-values value)
-
-  pub next-later : test j ≡ not value → nextColumn test value j n ≡ nextColumn test value (j + 1) m
-  unfolding nextColumn
-  next-later other = rw (more, other, other-values value)
-
--- what it is
-pub record Next (test : ℕ → Bool) (value : Bool) (j n at : ℕ) : Type 0 where
-  pub from : j ≤ at
-  pub to : at ≤ j + n
-  pub before : (i : ℕ) → j ≤ i → i < at → test i ≡ not value
-  pub found : at < j + n → test at ≡ value
-
-next-column : (test : ℕ → Bool) (value : Bool) (n j : ℕ) → Next test value j n (nextColumn test value j n)
-unfolding nextColumn
-next-column test value zero j =
-    record { from = omega arith; to = omega arith; before = λ i h b. absurd (omega arith); found = λ h. absurd (omega arith) }
-next-column test value (suc n) j =
-    ⊎-elim
-    (λ t. rw t
-    (record { from = omega arith; to = omega arith; before = λ i h b. absurd (omega arith); found = λ h. same (test j) value t }))
-    (λ t. let rest = next-column test value n (j + 1) in
-    let from = rest .from in
-    let to = rest .to in
-    rw t
-    (record {
-      from = omega arith;
-      to = omega arith;
-      before = λ i h b.
-          ⊎-elim (λ u. rw (eqb-true i j u) (other (test j) value t)) (λ u. rest .before i (omega (arith, eqb-false i j u)) b) (tested (eqb i j));
-      found = λ h. rest .found (omega arith);
-    }))
-    (tested (Bool·beq (test j) value))
-  where
-    same : (a b : Bool) → Bool·beq a b ≡ true → a ≡ b
-    same true true e = refl
-    same false false e = refl
-    same true false e = absurd (false≢true e)
-    same false true e = absurd (false≢true e)
-
-    other : (a b : Bool) → Bool·beq a b ≡ false → a ≡ not b
-    other true true e = absurd (true≢false e)
-    other false false e = absurd (true≢false e)
-    other true false e = refl
-    other false true e = refl
-
-pub next-is : (test : ℕ → Bool) (value : Bool) (j n : ℕ) {at : ℕ} → at ≡ nextColumn test value j n → Next test value j n at
-next-is test value j n is = rw is (next-column test value n j)

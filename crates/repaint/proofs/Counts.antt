@@ -26,15 +26,15 @@ pub pages-length : (left right : Chip) (picture : List ℕ) → length (hiddenPa
 pages-length left right picture = simp (length-append, page-length)
 
 module _ (c : Chip) (k : ℕ) (ram picture : List ℕ) where
-  pub both-length : length (chipRecords c k ram picture) ≡ chipCycles c k ram picture
-  both-length = simp (length-append, chosen-length)
+  pub chip-length : length (chipRecords c k ram picture) ≡ chipCycles c k ram picture
+  chip-length = simp (length-append, chosen-length)
 
-  pub both-few : chipCycles c k ram picture ≤ 126
-  both-few = omega (arith, chosen-few (differs c k ram picture 0), chosen-few (differs c k ram picture 1))
+  pub chip-few : chipCycles c k ram picture ≤ 126
+  chip-few = omega (arith, chosen-few (differs c k ram picture 0), chosen-few (differs c k ram picture 1))
 
 module _ (p : Panel) (picture : List ℕ) where
   pub sparing-length : length (sparingPages p picture) ≡ sparingQuiet p picture
   sparing-length = simp (length-append, chosen-length)
 
   pub sparing-few : sparingQuiet p picture ≤ 252
-  sparing-few = omega (arith, both-few (p .left) 0 (ramAt p 0) picture, both-few (p .right) 1 (ramAt p 1) picture)
+  sparing-few = omega (arith, chip-few (p .left) 0 (ramAt p 0) picture, chip-few (p .right) 1 (ramAt p 1) picture)

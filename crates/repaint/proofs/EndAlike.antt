@@ -1,32 +1,27 @@
--- Two repaints of one picture, sent whole from one panel, end in the same RAM and show the same; and how few cycles a sparing repaint takes.
+-- Two repaints of one picture, sent whole from one panel, end in the same RAM and show the same.
 use Prim.Native.Nat.{ℕ, zero, suc, _+_, _-_, _<_}
 use native.Mathlib.Omega.{arith}
 use mathlib.Core.Path.{_≡_, refl, sym, ap, _∙_}
-use mathlib.Core.Bool.{false, not}
-use mathlib.Core.List.{List, []}
+use mathlib.Core.Bool.{false}
+use mathlib.Core.List.{List}
 use mathlib.Core.Logic.{⊎-elim}
 use lib.Dec.{eqb, leb, ltb}
 use lib.ListN.{length, take-append-drop}
-use borrow.Author.Tests.{eqb-true, eqb-false, leb-true, leb-false, ltb-true, ltb-false, eq-eqb}
+use borrow.Author.Tests.{eqb-true, eqb-false, leb-true, leb-false, ltb-true, ltb-false}
 use Rattle.basics.proofs.Halves.{part-length}
 use Rattle.basics.proofs.Tests.{tested}
 use Rattle.sed1520.specs.Memory.{byteAt}
 use Rattle.sed1520.proofs.Cells.{same-cells}
 use Rattle.sed1520.specs.declared.registers.Chip.{Chip}
 use Rattle.panel.specs.Panel.{Panel, chipAt, ramAt}
-use Rattle.frame.specs.Frame.{segments, ramColumn}
+use Rattle.frame.specs.Frame.{segments}
 use Rattle.repaint.specs.Repaint.{hiddenPage, lowestColumn, columnSegment, pictureByte, repaintSizesWrong}
-use Rattle.repaint.specs.Sparing.{differs, chosenPage, sparingPages, sparingRecords, sparingQuiet}
-use Rattle.repaint.specs.SparingPromises.{BandHeld, CyclesCounted, EqualTakesTwo, sentWhole, EndAlike, NeverMore}
+use Rattle.repaint.specs.SparingPromises.{sentWhole, EndAlike}
 use Rattle.repaint.specs.TearFree.{BothReady, Request, asked, shown, wanted}
 use Rattle.repaint.proofs.Small.{segment-small}
-use Rattle.repaint.proofs.ChosenColumns.{none-chosen}
-use Rattle.repaint.proofs.Counts.{sparing-length, sparing-few}
-use Rattle.repaint.proofs.Page.{InBand, segment-column, segment-twice}
+use Rattle.repaint.proofs.Page.{InBand, column-shown}
 use Rattle.repaint.proofs.Plan.{Brought}
-use Rattle.repaint.proofs.ReadyChips.{ready-outcome, sparing-outcome}
 use Rattle.repaint.proofs.RepaintCases.{sizes-right}
-use Rattle.repaint.proofs.SparingCases.{cycles-counted}
 use Rattle.repaint.proofs.TearFree.{plans, accepted, repaints, stop, ready-at-stop, shown-at-stop}
 
 -- a place is one that a band is written to, or it is not
@@ -65,9 +60,9 @@ module _ (p : Panel) (picture : List ℕ) where
       let below : j < segments = omega (arith, b .below) in
       let n = columnSegment c j in
       let at : column ≡ lowestColumn c + j = omega arith in
-      let place : ramColumn c n ≡ lowestColumn c + j = rw (segment-column c n (segment-small c j below), segment-twice c j below) in
       rw (b .own-page)
-      (ap (λ m. byteAt (ramAt s k) (hiddenPage c r) m) (at ∙ sym place) ∙ brought .held k r side band .byte n (segment-small c j below))
+      (ap (λ m. byteAt (ramAt s k) (hiddenPage c r) m) (at ∙ sym (column-shown c j below))
+      ∙ brought .held k r side band .byte n (segment-small c j below))
 
   module _ (s t : Panel) (one : Brought p picture s) (other : Brought p picture t) (k : ℕ) (side : k < 2) where
     same-byte : (page column : ℕ) → column < 80 → byteAt (ramAt s k) page column ≡ byteAt (ramAt t k) page column
@@ -115,40 +110,3 @@ end-alike p ready one other same sizes sizes′ =
           (second .ram),
       first .frame ∙ ap wanted same ∙ sym (second .frame),
     )
-
-pub all-cycles-counted : CyclesCounted
-all-cycles-counted = record { counted = cycles-counted; at-most = λ p picture. omega (arith, sparing-few p picture) }
-
-pub never-more : NeverMore
-never-more p ready picture one other sizes sizes′ =
-    rw (sparing-outcome p ready picture one sizes, ready-outcome (p .left) (p .right) (ready .left) (ready .right) picture other sizes′)
-    (omega (arith, sparing-few p picture))
-
--- no column differs from a band that is held
-module _ (p : Panel) (picture : List ℕ) (held : (k r : ℕ) → k < 2 → r < 2 → BandHeld (chipAt p k) k picture r (ramAt p k)) where
-  no-difference : (k r : ℕ) → k < 2 → r < 2 → (j : ℕ) → j < segments → differs (chipAt p k) k (ramAt p k) picture r j ≡ false
-  no-difference k r side band j h =
-      let c = chipAt p k in
-      let n = columnSegment c j in
-      let column : ramColumn c n ≡ lowestColumn c + j = rw (segment-column c n (segment-small c j h), segment-twice c j h) in
-      let same = held k r side band .byte n (segment-small c j h) in
-      rw (← column, same) (ap not (eq-eqb (pictureByte picture k n r) (pictureByte picture k n r) refl))
-
-  none-sent : (k r : ℕ) → k < 2 → r < 2 → chosenPage (chipAt p k) k picture r (differs (chipAt p k) k (ramAt p k) picture r) ≡ []
-  none-sent k r side band = none-chosen (differs (chipAt p k) k (ramAt p k) picture r) (chipAt p k) k picture r (no-difference k r side band)
-
-  nothing-sent : sparingPages p picture ≡ []
-  nothing-sent =
-      rw (
-        none-sent 0 0 (omega arith) (omega arith),
-        none-sent 0 1 (omega arith) (omega arith),
-        none-sent 1 0 (omega arith) (omega arith),
-        none-sent 1 1 (omega arith) (omega arith),
-      )
-
-pub equal-takes-two : EqualTakesTwo
-unfolding sparingRecords
-equal-takes-two p ready picture buffer sizes held =
-    let none = nothing-sent p picture held in
-    let quiet : sparingQuiet p picture ≡ 0 = sym (sparing-length p picture) ∙ rw none in
-    sparing-outcome p ready picture buffer sizes ∙ rw (quiet, none)

@@ -4,6 +4,7 @@ pub mod Quiet
 pub mod Painting
 pub mod Small
 pub mod ChosenColumns
+pub mod NextColumn
 pub mod Page
 pub mod Turn
 pub mod Plan
@@ -17,4 +18,5 @@ pub mod LongestRuns
 pub mod ReadyChips
 pub mod TearFree
 pub mod EndAlike
+pub mod FewCycles
 pub mod Examples

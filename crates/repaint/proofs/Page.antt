@@ -56,19 +56,22 @@ page-hidden c ready i h r l e = ⊎-elim (λ z. at-zero z (rw z at e)) (λ z. at
     at-sixteen z e = omega arith
 
 -- segments and columns in one direction are each other's
-pub segment-column : (c : Chip) (n : ℕ) → n < segments → ramColumn c n ≡ lowestColumn c + columnSegment c n
+segment-column : (c : Chip) (n : ℕ) → n < segments → ramColumn c n ≡ lowestColumn c + columnSegment c n
 segment-column c n h = at (c .reverse)
   where
     at : (t : Bool) → if t (79 - n) n ≡ if t (80 - segments) 0 + if t (segments - 1 - n) n
     at true = omega arith
     at false = omega arith
 
-pub segment-twice : (c : Chip) (n : ℕ) → n < segments → columnSegment c (columnSegment c n) ≡ n
+segment-twice : (c : Chip) (n : ℕ) → n < segments → columnSegment c (columnSegment c n) ≡ n
 segment-twice c n h = at (c .reverse)
   where
     at : (t : Bool) → if t (segments - 1 - if t (segments - 1 - n) n) (if t (segments - 1 - n) n) ≡ n
     at true = omega arith
     at false = refl
+
+pub column-shown : (c : Chip) (j : ℕ) → j < segments → ramColumn c (columnSegment c j) ≡ lowestColumn c + j
+column-shown c j h = rw (segment-column c (columnSegment c j) (segment-small c j h), segment-twice c j h)
 
 module _ (p : Panel) (ready : BothReady p) (picture : List ℕ) where
   -- what writing some columns of band r on chip k leaves

@@ -2,17 +2,18 @@
 use Prim.Native.Nat.{ℕ, zero, suc, _+_, _-_, _<_, _≤_}
 use native.Mathlib.Omega.{arith}
 use mathlib.Core.Path.{_≡_, refl, sym, ap, _∙_}
-use mathlib.Core.Bool.{Bool, true, false, true≢false}
+use mathlib.Core.Bool.{Bool, true, false, not, true≢false}
 use mathlib.Core.List.{List, append-nil}
 use mathlib.Core.Logic.{⊎-elim}
 use lib.Dec.{eqb}
-use borrow.Author.Tests.{eqb-true, eqb-false}
+use borrow.Author.Tests.{eqb-true, eqb-false, not-true, not-false}
 use Rattle.basics.proofs.Lists.{joined-split}
 use Rattle.basics.proofs.Tests.{tested}
 use Rattle.sed1520.specs.declared.registers.Chip.{Chip}
 use Rattle.frame.specs.Frame.{segments}
 use Rattle.repaint.specs.Sparing.{passesBefore, columnRecords, chosenColumns, nextColumn}
-use Rattle.repaint.proofs.ChosenColumns.{gap-columns, next-is}
+use Rattle.repaint.proofs.ChosenColumns.{gap-columns}
+use Rattle.repaint.proofs.NextColumn.{next-is}
 
 -- a run begins at the j-th column, unless that is past the last
 pub record Begins (test : ℕ → Bool) (j : ℕ) : Type 0 where
@@ -28,21 +29,21 @@ pub record Goes (test : ℕ → Bool) (j end : ℕ) : Type 0 where
   pub ends : end < segments → test end ≡ false
 
 module _ (test : ℕ → Bool) where
-  pub run-goes : (j end : ℕ) → j < segments → Begins test j → end ≡ nextColumn test false j (segments - j) → Goes test j end
+  pub run-goes : (j end : ℕ) → j < segments → Begins test j → end ≡ nextColumn (λ i. not (test i)) j (segments - j) → Goes test j end
   run-goes j end inside begins is =
-      let next = next-is test false j (segments - j) is in
+      let next = next-is (λ i. not (test i)) j (segments - j) is in
       let from = next .from in
       let to = next .to in
       record {
         longer =
             ⊎-elim
             (λ t. let e = eqb-true end j t in
-            absurd (true≢false (sym (begins .passes inside) ∙ rw e at (next .found (omega arith)))))
+            absurd (true≢false (sym (begins .passes inside) ∙ rw e at (not-true (test end) (next .found (omega arith))))))
             (λ t. let d = eqb-false end j t in omega arith)
             (tested (eqb end j));
         within = omega arith;
-        passes = λ i h b. next .before i h (omega arith);
-        ends = λ h. next .found (omega arith);
+        passes = λ i h b. not-false (test i) (next .before i h (omega arith));
+        ends = λ h. not-true (test end) (next .found (omega arith));
       }
 
   -- no column passes just before one that the columns between do not
@@ -56,11 +57,11 @@ module _ (test : ℕ → Bool) where
       (tested (eqb (suc j) from))
 
   -- the next run begins past columns that do not pass, of which the first is one where there is a column before them
-  module _ (from at : ℕ) (inside : from ≤ segments) (is : at ≡ nextColumn test true from (segments - from))
+  module _ (from at : ℕ) (inside : from ≤ segments) (is : at ≡ nextColumn test from (segments - from))
       (first : from < segments → test from ≡ true → passesBefore test from ≡ false) where
     pub run-begins : Begins test at
     run-begins =
-        let next = next-is test true from (segments - from) is in
+        let next = next-is test from (segments - from) is in
         let to = next .to in
         record {
           within = omega arith;
@@ -71,12 +72,12 @@ module _ (test : ℕ → Bool) where
         }
 
     pub gap-passed : from ≤ at
-    gap-passed = let next = next-is test true from (segments - from) is in next .from
+    gap-passed = let next = next-is test from (segments - from) is in next .from
 
     pub gap-records : (c : Chip) (k : ℕ) (picture : List ℕ) (r : ℕ)
         → chosenColumns c k picture r test 0 at ≡ chosenColumns c k picture r test 0 from
     gap-records c k picture r =
-        let next = next-is test true from (segments - from) is in
+        let next = next-is test from (segments - from) is in
         let f = columnRecords c k picture r test in
         let h = next .from in
         let all : at ≡ from + (at - from) = omega arith in

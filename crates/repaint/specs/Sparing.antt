@@ -1,7 +1,7 @@
 -- The sparing repaint (request C-17): the records that bring a 122 by 16 picture to the panel and write, of the hidden pages, only the bytes that
 -- differ from it.
 use Prim.Native.Nat.{ℕ, zero, suc, _+_, _-_, _*_}
-use mathlib.Core.Bool.{Bool, false, not, _&&_, _||_, Bool·beq}
+use mathlib.Core.Bool.{Bool, false, not, _&&_, _||_}
 use mathlib.Core.List.{List, [], _∷_, _++_}
 use lib.Dec.{eqb}
 use lib.ListN.{length, drop}
@@ -99,11 +99,11 @@ sparingOf p picture buffer =
 abbrev pub putFront : List Record → List ℕ → Result ℕ (List ℕ)
 putFront records buffer = result (4 * length records) (recordsBytes records ++ drop (4 * length records) buffer)
 
--- the first of n columns, from column j on, at which a test gives a value, or the one past them
-unfoldable pub nextColumn : (ℕ → Bool) → Bool → ℕ → ℕ → ℕ
-nextColumn test value j zero = j
-nextColumn test value j (suc n) = if (Bool·beq (test j) value) j (nextColumn test value (j + 1) n)
+-- the first of n columns, from column j on, that passes a test, or the one past them
+unfoldable pub nextColumn : (ℕ → Bool) → ℕ → ℕ → ℕ
+nextColumn test j zero = j
+nextColumn test j (suc n) = if (test j) j (nextColumn test (j + 1) n)
 
--- the data writes of a run of columns that pass a test, from column j to the first that does not
+-- the data writes of a run of columns that pass a test, from column j to before the first that does not
 abbrev pub runWrites : Chip → ℕ → List ℕ → ℕ → (ℕ → Bool) → ℕ → List Record
-runWrites c chip picture r test j = tabulated (columnWrite c chip picture r) j (nextColumn test false j (segments - j) - j)
+runWrites c chip picture r test j = tabulated (columnWrite c chip picture r) j (nextColumn (λ i. not (test i)) j (segments - j) - j)

@@ -2,7 +2,6 @@
 // to the front of a lent part of the output buffer.
 ghost use Prim.Native.Nat.{_+_, _-_, _*_, _<_, _≤_};
 ghost use mathlib.Core.Path.{_≡_};
-ghost use mathlib.Core.Bool.{true};
 ghost use lib.ListN.{length};
 ghost use Rattle.basics.specs.Verdict.{result};
 ghost use Rattle.sed1520.specs.Memory.{ramLength};
@@ -37,7 +36,7 @@ fn next_changed(chip: Chip, which: u8, ram: &[u8], picture: &[u8], band: u8, fro
     requires { ⌜ length (now ram) ≡ ramLength ⌝ }
     requires { ⌜ length (now picture) ≡ pictureLength ⌝ }
     requires { ⌜ band < 2 ⌝ }
-    ensures { λ r. ⌜ r ≡ nextColumn (differs chip which (now (ram .entry)) (now (picture .entry)) band) true from (segments - from) ⌝ }
+    ensures { λ r. ⌜ r ≡ nextColumn (differs chip which (now (ram .entry)) (now (picture .entry)) band) from (segments - from) ⌝ }
 {
     let mut j = from;
     while j < Chip::SEGMENTS {
@@ -95,7 +94,7 @@ fn put_columns(
     requires { ⌜ length (now ram) ≡ ramLength ⌝ }
     requires { ⌜ length (now picture) ≡ pictureLength ⌝ }
     requires { ⌜ band < 2 ⌝ }
-    requires { ⌜ first ≡ nextColumn (differs chip which (now ram) (now picture) band) true 0 segments ⌝ }
+    requires { ⌜ first ≡ nextColumn (differs chip which (now ram) (now picture) band) 0 segments ⌝ }
     requires { ⌜ 4 + writesLength ≤ length (now output) ⌝ }
     ensures { λ r. ⌜ result r (now (output .exit))
         ≡ putFront

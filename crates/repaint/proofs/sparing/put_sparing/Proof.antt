@@ -9,7 +9,7 @@ use Rattle.basics.proofs.Parts.{rest}
 use Rattle.panel.specs.Panel.{asPanel, ramAt}
 use Rattle.repaint.specs.Repaint.{turn}
 use Rattle.repaint.specs.Sparing.{chipRecords, sparingRecords}
-use Rattle.repaint.proofs.Bytes.{answer-of, front-begun, begun-put, begun-record, begun-front, both-bytes}
+use Rattle.repaint.proofs.Bytes.{answer-of, front-begun, begun-put, begun-record, begun-front, chip-bytes}
 use Rattle.repaint.proofs.sparing.put_sparing.Statement.{statement}
 use Rattle.repaint.proofs.sparing.put_sparing.Tie as tie
 
@@ -17,13 +17,13 @@ use Rattle.repaint.proofs.sparing.put_sparing.Tie as tie
 left-few : (c : tie.After-put-changed-pages) → c .put-changed-pages .result ≤ 504
 left-few c =
     let at = c .before .before .before .before .before .before .args in
-    both-bytes (at .left) 0 (ramAt (asPanel (at .left) (at .right) (at .ram .now)) 0) (at .picture .now)
+    chip-bytes (at .left) 0 (ramAt (asPanel (at .left) (at .right) (at .ram .now)) 0) (at .picture .now)
     (answer-of (c .put-changed-pages .ensures))
 
 right-few : (c : tie.After-put-changed-pages2) → c .put-changed-pages2 .result ≤ 504
 right-few c =
     let at = c .before .before .before .before .before .before .before .before .before .before .before .args in
-    both-bytes (at .right) 1 (take (length (at .ram .now) - 320) (drop 320 (at .ram .now))) (at .picture .now)
+    chip-bytes (at .right) 1 (take (length (at .ram .now) - 320) (drop 320 (at .ram .now))) (at .picture .now)
     (answer-of (c .put-changed-pages2 .ensures))
 
 pages-few : (c : tie.After-slice-known3) → let right = c .before .before in

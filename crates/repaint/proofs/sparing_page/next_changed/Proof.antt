@@ -2,17 +2,16 @@
 use Prim.Native.Nat.{suc, _+_, _-_}
 use native.Mathlib.Omega.{arith}
 use mathlib.Core.Path.{_≡_, refl, sym, _∙_}
-use mathlib.Core.Bool.{true}
 use Rattle.frame.specs.Frame.{segments}
 use Rattle.repaint.specs.Sparing.{differs, nextColumn}
-use Rattle.repaint.proofs.ChosenColumns.{next-here, next-later}
+use Rattle.repaint.proofs.NextColumn.{next-here, next-later}
 use Rattle.repaint.proofs.sparing_page.next_changed.Statement.{statement}
 use Rattle.repaint.proofs.sparing_page.next_changed.Tie as tie
 
 abbrev Inv-loop : tie.InvT-loop
 Inv-loop chip which ram picture band from j₀ j =
     let test = differs chip which ram picture band in
-    nextColumn test true j (segments - j) ≡ nextColumn test true from (segments - from)
+    nextColumn test j (segments - j) ≡ nextColumn test from (segments - from)
 
 abbrev μ-loop : tie.MeasureT-loop
 μ-loop chip which ram picture band from j₀ j = segments - j
@@ -29,7 +28,7 @@ returns c =
     let at = loop .before .before .before .args in
     let here = differs (at .chip) (at .which) (at .ram .now) (at .picture .now) (at .band) in
     let more : segments - loop .loop .j ≡ suc (segments - (loop .loop .j + 1)) = omega arith in
-    sym (next-here here true (loop .loop .j) more (sym (test .column-differs .ensures) ∙ c .if1 .taken)) ∙ loop .loop .inv
+    sym (next-here here (loop .loop .j) more (sym (test .column-differs .ensures) ∙ c .if1 .taken)) ∙ loop .loop .inv
 
 loop-again : tie.Need-loop-again Inv-loop μ-loop
 loop-again c =
@@ -38,7 +37,7 @@ loop-again c =
     let at = loop .before .before .before .args in
     let here = differs (at .chip) (at .which) (at .ram .now) (at .picture .now) (at .band) in
     let more : segments - loop .loop .j ≡ suc (segments - (loop .loop .j + 1)) = omega arith in
-    sym (next-later here true (loop .loop .j) more (sym (test .column-differs .ensures) ∙ c .if1 .left)) ∙ loop .loop .inv
+    sym (next-later here (loop .loop .j) more (sym (test .column-differs .ensures) ∙ c .if1 .left)) ∙ loop .loop .inv
 
 returns-2 : tie.Need-returns-2 Inv-loop μ-loop
 unfolding nextColumn

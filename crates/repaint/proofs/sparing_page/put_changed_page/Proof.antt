@@ -2,7 +2,7 @@
 use Prim.Native.Nat.{ℕ}
 use native.Mathlib.Omega.{arith}
 use mathlib.Core.Path.{refl}
-use mathlib.Core.Bool.{Bool, true}
+use mathlib.Core.Bool.{Bool}
 use mathlib.Core.List.{[], _∷_, flatMap}
 use borrow.Author.Needs.{needs}
 use Rattle.basics.proofs.Filling.{begun-first}
@@ -11,7 +11,8 @@ use Rattle.frame.specs.Frame.{segments}
 use Rattle.repaint.specs.Repaint.{pageSet}
 use Rattle.repaint.specs.Sparing.{differs, chosenColumns, chosenPage}
 use Rattle.repaint.proofs.Bytes.{answer-of, begun-put, begun-front}
-use Rattle.repaint.proofs.ChosenColumns.{none-counted, some-counted, Next, next-is, at-most-one, cycles-few, columns-length}
+use Rattle.repaint.proofs.ChosenColumns.{none-counted, some-counted, at-most-one, cycles-few, columns-length}
+use Rattle.repaint.proofs.NextColumn.{Next, next-is}
 use Rattle.repaint.proofs.sparing_page.put_changed_page.Statement.{statement}
 use Rattle.repaint.proofs.sparing_page.put_changed_page.Tie as tie
 
@@ -22,8 +23,8 @@ start c = c .before .before .before .before
 abbrev test : tie.Start → ℕ → Bool
 test s = let at = s .args in differs (at .chip) (at .which) (at .ram .now) (at .picture .now) (at .band)
 
-first : (c : tie.After-next-changed) → Next (test (start c)) true 0 segments (c .next-changed .result)
-first c = next-is (test (start c)) true 0 segments (c .next-changed .ensures)
+first : (c : tie.After-next-changed) → Next (test (start c)) 0 segments (c .next-changed .result)
+first c = next-is (test (start c)) 0 segments (c .next-changed .ensures)
 
 returns : tie.Need-returns
 unfolding flatMap chosenPage

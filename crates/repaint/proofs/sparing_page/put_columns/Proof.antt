@@ -2,7 +2,7 @@
 use Prim.Native.Nat.{ℕ, _+_, _-_, _*_, _/_, _<_, _≤_}
 use native.Mathlib.Omega.{arith}
 use mathlib.Core.Path.{_≡_, refl, sym, ap, _∙_}
-use mathlib.Core.Bool.{Bool, true, false, true≢false}
+use mathlib.Core.Bool.{Bool, true, false, not, true≢false}
 use mathlib.Core.List.{flatMap}
 use lib.ListN.{length, length-take, length-drop}
 use borrow.Author.Needs.{needs}
@@ -73,7 +73,7 @@ abbrev start : tie.After-put-run-writes Inv-loop μ-loop → tie.Start Inv-loop 
 start c = turn c .before .before .before .before .before
 
 abbrev end : tie.After-put-run-writes Inv-loop μ-loop → ℕ
-end c = let run = turn c .before .loop .run in nextColumn (test (start c)) false run (segments - run)
+end c = let run = turn c .before .loop .run in nextColumn (λ i. not (test (start c) i)) run (segments - run)
 
 goes : (c : tie.After-put-run-writes Inv-loop μ-loop) → Goes (test (start c)) (turn c .before .loop .run) (end c)
 goes c = run-goes (test (start c)) (turn c .before .loop .run) (end c) (omega arith) (turn c .before .loop .inv .1 .0) refl
@@ -94,7 +94,7 @@ next-changed-requires c κs = let pre = start (c .before .before) .pre in (pre .
 
 -- the next run begins at the next column that passes
 next : (c : tie.After-next-changed Inv-loop μ-loop) → let put = c .before .before .before in
-    c .next-changed .result ≡ nextColumn (test (start put)) true (end put) (segments - end put)
+    c .next-changed .result ≡ nextColumn (test (start put)) (end put) (segments - end put)
 next c = let put = c .before .before .before in let e = past put in c .next-changed .ensures ∙ rw e
 
 -- which is not the column past this one, since that does not pass

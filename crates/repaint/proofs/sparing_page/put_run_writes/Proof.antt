@@ -2,10 +2,9 @@
 use Prim.Native.Nat.{ℕ, suc, _+_, _-_, _*_, _<_, _≤_}
 use native.Mathlib.Omega.{arith}
 use mathlib.Core.Path.{_≡_, refl, sym, ap, _∙_}
-use mathlib.Core.Bool.{Bool, false}
+use mathlib.Core.Bool.{Bool, not}
 use mathlib.Core.List.{flatMap}
 use lib.ListN.{length, length-take, length-drop}
-use borrow.Author.Tests.{not-true, not-false}
 use Rattle.basics.specs.Lists.{joined, tabulated}
 use Rattle.basics.specs.Verdict.{result}
 use Rattle.basics.proofs.Filling.{Begun, begun-none, begun-length}
@@ -13,24 +12,27 @@ use Rattle.frame.specs.Frame.{segments}
 use Rattle.repaint.specs.Repaint.{columnSegment, columnWrite}
 use Rattle.repaint.specs.Sparing.{differs, putFront, nextColumn, runWrites}
 use Rattle.repaint.proofs.Bytes.{written, written-length, begun-write, begun-front}
-use Rattle.repaint.proofs.ChosenColumns.{next-here, next-later}
+use Rattle.repaint.proofs.NextColumn.{next-here, next-later}
 use Rattle.repaint.proofs.Small.{segment-small}
 use Rattle.repaint.proofs.sparing_page.put_run_writes.Statement.{statement}
 use Rattle.repaint.proofs.sparing_page.put_run_writes.Tie as tie
 
 abbrev Inv-loop : tie.InvT-loop
 Inv-loop chip which ram picture band from output₀ bytes₀ column₀ output bytes column =
-    let test = differs chip which ram picture band in
+    let equal : ℕ → Bool = λ i. not (differs chip which ram picture band i) in
     Begun output₀ (written chip which picture band from (column - from)) bytes output
-    × ((nextColumn test false column (segments - column) ≡ nextColumn test false from (segments - from))
+    × ((nextColumn equal column (segments - column) ≡ nextColumn equal from (segments - from))
     × ((from ≤ column) × ((column ≤ segments) × (length output ≡ length output₀))))
 
 abbrev μ-loop : tie.MeasureT-loop
 μ-loop chip which ram picture band from output₀ bytes₀ column₀ output bytes column = segments - column
 
--- the columns that differ
+-- the columns that differ, and those that do not
 abbrev test : tie.Start Inv-loop μ-loop → ℕ → Bool
 test start = let at = start .args in differs (at .chip) (at .which) (at .ram .now) (at .picture .now) (at .band)
+
+abbrev equal : tie.Start Inv-loop μ-loop → ℕ → Bool
+equal start i = not (test start i)
 
 loop-holds : tie.Need-loop-holds Inv-loop μ-loop
 unfolding joined flatMap
@@ -55,7 +57,7 @@ more j h = omega arith
 
 -- the writes are those up to the column where the run ends
 ended : (l : tie.At-loop Inv-loop μ-loop) → let start = l .before .before .before .before in let at = start .args in
-    nextColumn (test start) false (at .from) (segments - at .from) ≡ l .loop .column
+    nextColumn (equal start) (at .from) (segments - at .from) ≡ l .loop .column
     → result (l .loop .bytes) (l .loop .output)
     ≡ putFront (runWrites (at .chip) (at .which) (at .picture .now) (at .band) (test start) (at .from)) (at .output .now)
 ended l ends =
@@ -71,8 +73,8 @@ returns c =
     let differ = c .before in
     let loop = differ .before .before in
     let start = loop .before .before .before .before in
-    let equal = sym (differ .column-differs .ensures) ∙ not-true (differ .column-differs .result) (c .if1 .taken) in
-    ended loop (sym (loop .loop .inv .1 .0) ∙ next-here (test start) false (loop .loop .column) (more (loop .loop .column) (omega arith)) equal)
+    let same = rw (differ .column-differs .ensures) at (c .if1 .taken) in
+    ended loop (sym (loop .loop .inv .1 .0) ∙ next-here (equal start) (loop .loop .column) (more (loop .loop .column) (omega arith)) same)
 
 picture-byte-requires : tie.Need-picture-byte-requires Inv-loop μ-loop
 picture-byte-requires c κs =
@@ -96,14 +98,14 @@ loop-again c =
     let on = loop .loop .inv .1 .1 .0 in
     let here : j ≡ at .from + (j - at .from) = omega arith in
     let next : j - at .from + 1 ≡ j + 1 - at .from = omega arith in
-    let differs = sym (differ .column-differs .ensures) ∙ not-false (differ .column-differs .result) (segment .before .if1 .left) in
+    let other = rw (differ .column-differs .ensures) at (segment .before .if1 .left) in
     let put-here =
     rw next
     at (begun-write (at .chip) (at .which) (at .picture .now) (at .band) (at .from) (j - at .from) (loop .loop .inv .0)
     (segment .column-segment .ensures ∙ ap (columnSegment (at .chip)) here) (byte .picture-byte .ensures) (put .put-record .ensures)) in (
       put-here,
       (
-        sym (next-later (test start) false j (more j (omega arith)) differs) ∙ loop .loop .inv .1 .0,
+        sym (next-later (equal start) j (more j (omega arith)) other) ∙ loop .loop .inv .1 .0,
         (omega arith, (omega arith, begun-length put-here (omega (arith, start .pre .1 .1 .1 .1, so-far loop)))),
       ),
     )
