@@ -43,6 +43,14 @@ module _ (f : ℕ → ℕ) where
       (λ t. sum-is-zero n (omega arith) i (omega (arith, eqb-false i n t)))
       (tested (eqb i n))
 
+  -- from one number on it gives the same
+  pub sum-alike : (step j n : ℕ) → ((i : ℕ) → j ≤ i → i < j + n → f i ≡ step) → sumBelow f (j + n) ≡ sumBelow f j + step * n
+  sum-alike step j zero h = let e : j + 0 ≡ j = omega arith in rw e (omega arith)
+  sum-alike step j (suc n) h =
+      let e : j + suc n ≡ j + n + 1 = omega arith in
+      let more : step * suc n ≡ step + step * n = omega arith in
+      rw e (omega (arith, sum-next (j + n), h (j + n) (omega arith) (omega arith), sum-alike step j n (λ i l m. h i l (omega arith)), more))
+
   pub sum-at-most : (most n : ℕ) → ((i : ℕ) → i < n → f i ≤ most) → sumBelow f n ≤ most * n
   unfolding sumBelow
   sum-at-most most zero h = omega arith

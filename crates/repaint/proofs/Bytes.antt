@@ -1,5 +1,5 @@
 -- Records written into an output buffer one part after the other.
-use Prim.Native.Nat.{ℕ, suc, _+_, _-_, _*_, _<_, _≤_}
+use Prim.Native.Nat.{ℕ, _+_, _-_, _*_, _<_, _≤_}
 use native.Mathlib.Omega.{arith}
 use native.Mathlib.Numerals.{add-one}
 use mathlib.Core.Path.{_≡_, refl, sym, ap, _∙_}
@@ -10,16 +10,17 @@ use lib.Seq.{sets-eq}
 use Rattle.basics.specs.Lists.{tabulated}
 use Rattle.basics.specs.Verdict.{Result, result}
 use Rattle.basics.proofs.Filling.{Begun, begun-rest}
-use Rattle.basics.proofs.Lists.{joined-more, joined-split, tabulated-length}
+use Rattle.basics.proofs.Lists.{joined-more, tabulated-length}
 use Rattle.sed1520.specs.Laws.{sent}
 use Rattle.sed1520.specs.Records.{recordBytes, recordsBytes}
 use Rattle.sed1520.specs.declared.registers.Chip.{Chip}
 use Rattle.sed1520.specs.declared.bus.Record.{Record}
 use Rattle.sed1520.proofs.Records.{bytes-append, bytes-length}
-use Rattle.repaint.specs.Sparing.{passesBefore, columnRecords, chosenColumns, chosenPage, chipRecords, putFront}
+use Rattle.repaint.specs.Sparing.{passesBefore, chosenColumns, chosenPage, chipRecords, putFront}
 use Rattle.repaint.proofs.Counts.{chip-length, chip-few}
-use Rattle.repaint.proofs.ChosenColumns.{cycles-few, columns-length, run-columns, chosen-length, chosen-few}
-use Rattle.repaint.specs.Repaint.{columnSegment, pictureByte, columnWrite, columnSet, runRecords, pageRecords, turn, repaintRecords}
+use Rattle.repaint.proofs.RunByRun.{run-added}
+use Rattle.repaint.proofs.ChosenColumns.{cycles-few, columns-length, chosen-length, chosen-few}
+use Rattle.repaint.specs.Repaint.{columnSegment, pictureByte, columnWrite, columnSet, pageRecords, turn, repaintRecords}
 
 -- four bytes written to the front
 pub four-written : (l : List ℕ) (a b c d : ℕ) → 4 ≤ length l → set (set (set (set l 0 a) 1 b) 2 c) 3 d ≡ a ∷ b ∷ c ∷ d ∷ drop 4 l
@@ -87,15 +88,6 @@ module _ (c : Chip) (chip : ℕ) (picture : List ℕ) (r : ℕ) (test : ℕ → 
       omega (arith, begun .size, bytes-length so-far, columns-length test c chip picture r j, few)
 
   module _ (n : ℕ) (passes : (i : ℕ) → j ≤ i → i < j + n → test i ≡ true) (some : 0 < n) where
-    run-added : chosenColumns c chip picture r test 0 (j + n) ≡ chosenColumns c chip picture r test 0 j ++ runRecords c chip picture r j n
-    run-added =
-        let here : 0 + j ≡ j = omega arith in
-        let next : n ≡ suc (n - 1) = omega arith in
-        joined-split (columnRecords c chip picture r test) 0 j n
-        ∙ rw (here, next)
-        (ap (λ (rs : List Record). chosenColumns c chip picture r test 0 j ++ rs)
-        (run-columns c chip picture r test (n - 1) j before (λ i h b. passes i h (omega arith))))
-
     -- the column is set, and then its writes come
     pub begun-run : {old : List ℕ} {at : ℕ} {now : List ℕ}
         → Begun old (recordsBytes (chosenColumns c chip picture r test 0 j ++ (columnSet c chip j ∷ []))) at now
@@ -106,7 +98,7 @@ module _ (c : Chip) (chip : ℕ) (picture : List ℕ) (r : ℕ) (test : ℕ → 
     begun-run begun e =
         let so-far = chosenColumns c chip picture r test 0 j in
         let writes = tabulated (columnWrite c chip picture r) j n in
-        let all = run-added ∙ sym (append-assoc so-far (columnSet c chip j ∷ []) writes) in
+        let all = run-added test c chip picture r j before n passes some ∙ sym (append-assoc so-far (columnSet c chip j ∷ []) writes) in
         rw all (begun-put (so-far ++ (columnSet c chip j ∷ [])) writes begun e)
 
 -- a page takes 252 bytes at most

@@ -10,8 +10,8 @@ pub mod Turn
 pub mod Plan
 pub mod Pages
 pub mod Counts
-pub mod Bytes
 pub mod RunByRun
+pub mod Bytes
 pub mod RepaintCases
 pub mod SparingCases
 pub mod LongestRuns

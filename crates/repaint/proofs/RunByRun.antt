@@ -3,16 +3,18 @@ use Prim.Native.Nat.{ℕ, zero, suc, _+_, _-_, _<_, _≤_}
 use native.Mathlib.Omega.{arith}
 use mathlib.Core.Path.{_≡_, refl, sym, ap, _∙_}
 use mathlib.Core.Bool.{Bool, true, false, not, true≢false}
-use mathlib.Core.List.{List, append-nil}
+use mathlib.Core.List.{List, _++_, append-nil}
 use mathlib.Core.Logic.{⊎-elim}
 use lib.Dec.{eqb}
 use borrow.Author.Tests.{eqb-true, eqb-false, not-true, not-false}
 use Rattle.basics.proofs.Lists.{joined-split}
 use Rattle.basics.proofs.Tests.{tested}
 use Rattle.sed1520.specs.declared.registers.Chip.{Chip}
+use Rattle.sed1520.specs.declared.bus.Record.{Record}
 use Rattle.frame.specs.Frame.{segments}
+use Rattle.repaint.specs.Repaint.{runRecords}
 use Rattle.repaint.specs.Sparing.{passesBefore, columnRecords, chosenColumns, nextColumn}
-use Rattle.repaint.proofs.ChosenColumns.{gap-columns}
+use Rattle.repaint.proofs.ChosenColumns.{run-columns, gap-columns}
 use Rattle.repaint.proofs.NextColumn.{next-is}
 
 -- a run begins at the j-th column, unless that is past the last
@@ -45,6 +47,10 @@ module _ (test : ℕ → Bool) where
         passes = λ i h b. not-false (test i) (next .before i h (omega arith));
         ends = λ h. not-true (test end) (next .found (omega arith));
       }
+
+  -- no run begins at its end
+  pub past-run : {j end : ℕ} → Goes test j end → end < segments → test end ≡ true → passesBefore test end ≡ false
+  past-run goes h passes = absurd (true≢false (sym passes ∙ goes .ends h))
 
   -- no column passes just before one that the columns between do not
   unpreceded : (j from : ℕ) → from ≤ j → ((i : ℕ) → from ≤ i → i < j → test i ≡ false) → (j ≡ from → passesBefore test j ≡ false)
@@ -85,3 +91,15 @@ module _ (test : ℕ → Bool) where
         ap (λ n. chosenColumns c k picture r test 0 n) all
         ∙ joined-split f 0 from (at - from)
         ∙ rw (here, gap-columns c k picture r test (at - from) from (λ i l b. next .before i l (omega arith)), append-nil)
+
+  -- a run written after the columns before it
+  pub run-added : (c : Chip) (k : ℕ) (picture : List ℕ) (r j : ℕ) → passesBefore test j ≡ false
+      → (n : ℕ) → ((i : ℕ) → j ≤ i → i < j + n → test i ≡ true) → 0 < n
+      → chosenColumns c k picture r test 0 (j + n) ≡ chosenColumns c k picture r test 0 j ++ runRecords c k picture r j n
+  run-added c k picture r j before n passes some =
+      let here : 0 + j ≡ j = omega arith in
+      let next : n ≡ suc (n - 1) = omega arith in
+      joined-split (columnRecords c k picture r test) 0 j n
+      ∙ rw (here, next)
+      (ap (λ (rs : List Record). chosenColumns c k picture r test 0 j ++ rs)
+      (run-columns c k picture r test (n - 1) j before (λ i h b. passes i h (omega arith))))

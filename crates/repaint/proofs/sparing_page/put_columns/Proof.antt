@@ -1,8 +1,8 @@
 -- `repaint::sparing_page::put_columns` meets its contract: the records of the columns so far are at the front, and a run begins at the next.
-use Prim.Native.Nat.{ℕ, _+_, _-_, _*_, _/_, _<_, _≤_}
+use Prim.Native.Nat.{ℕ, _+_, _-_, _*_, _/_, _≤_}
 use native.Mathlib.Omega.{arith}
-use mathlib.Core.Path.{_≡_, refl, sym, ap, _∙_}
-use mathlib.Core.Bool.{Bool, true, false, not, true≢false}
+use mathlib.Core.Path.{_≡_, refl, ap, _∙_}
+use mathlib.Core.Bool.{Bool, not}
 use mathlib.Core.List.{flatMap}
 use lib.ListN.{length, length-take, length-drop}
 use borrow.Author.Needs.{needs}
@@ -11,10 +11,10 @@ use Rattle.basics.proofs.Lists.{tabulated-length}
 use Rattle.basics.proofs.Filling.{Begun, begun-none}
 use Rattle.sed1520.specs.Records.{recordsBytes}
 use Rattle.frame.specs.Frame.{segments}
-use Rattle.repaint.specs.Sparing.{differs, passesBefore, chosenColumns, nextColumn}
+use Rattle.repaint.specs.Sparing.{differs, chosenColumns, nextColumn}
 use Rattle.repaint.specs.Repaint.{columnWrite, columnSet}
 use Rattle.repaint.proofs.Bytes.{answer-of, begun-record, columns-fit, begun-run, begun-front}
-use Rattle.repaint.proofs.RunByRun.{Begins, Goes, run-goes, run-begins, gap-passed, gap-records}
+use Rattle.repaint.proofs.RunByRun.{Begins, Goes, run-goes, past-run, run-begins, gap-passed, gap-records}
 use Rattle.repaint.proofs.sparing_page.put_columns.Statement.{statement}
 use Rattle.repaint.proofs.sparing_page.put_columns.Tie as tie
 
@@ -97,17 +97,12 @@ next : (c : tie.After-next-changed Inv-loop μ-loop) → let put = c .before .be
     c .next-changed .result ≡ nextColumn (test (start put)) (end put) (segments - end put)
 next c = let put = c .before .before .before in let e = past put in c .next-changed .ensures ∙ rw e
 
--- which is not the column past this one, since that does not pass
-ended : (c : tie.After-put-run-writes Inv-loop μ-loop) → end c < segments → test (start c) (end c) ≡ true
-    → passesBefore (test (start c)) (end c) ≡ false
-ended c h passes = absurd (true≢false (sym passes ∙ goes c .ends h))
-
 loop-less : tie.Need-loop-less Inv-loop μ-loop
 loop-less c =
     let put = c .before .before .before in
     let run = goes put in
     let long = run .longer in
-    let on = gap-passed (test (start put)) (end put) (c .next-changed .result) (run .within) (next c) (ended put) in
+    let on = gap-passed (test (start put)) (end put) (c .next-changed .result) (run .within) (next c) (past-run (test (start put)) run) in
     omega arith
 
 loop-again : tie.Need-loop-again Inv-loop μ-loop
@@ -127,11 +122,11 @@ loop-again c =
     begun-run (at .chip) (at .which) (at .picture .now) (at .band) (test (start put)) (here .loop .run)
     (here .loop .inv .1 .0 .unpreceded (omega arith)) n (run .passes) (omega arith) one (put .put-run-writes .ensures) in
     let gap =
-    gap-records (test (start put)) (end put) (c .next-changed .result) (run .within) (next c) (ended put) (at .chip) (at .which)
+    gap-records (test (start put)) (end put) (c .next-changed .result) (run .within) (next c) (past-run (test (start put)) run) (at .chip) (at .which)
     (at .picture .now) (at .band) in
     let written = rw all at two in (
       rw gap written,
-      (run-begins (test (start put)) (end put) (c .next-changed .result) (run .within) (next c) (ended put), search needs),
+      (run-begins (test (start put)) (end put) (c .next-changed .result) (run .within) (next c) (past-run (test (start put)) run), search needs),
     )
 
 same-length : tie.Need-same-length Inv-loop μ-loop
