@@ -305,7 +305,7 @@ struct repaint {
     uint8_t records[PEDRALUME_REPAINT_BYTES];
 };
 
-/* Made for the chips and RAM that the run has come to. */
+/* Made for the chips and RAM as the run left them. */
 static bool make_repaint(const struct run *run, const struct options *options, struct repaint *made)
 {
     uint8_t picture[PEDRALUME_PICTURE_BYTES];

@@ -43,7 +43,7 @@ module _ (f : ℕ → ℕ) where
       (λ t. sum-is-zero n (omega arith) i (omega (arith, eqb-false i n t)))
       (tested (eqb i n))
 
-  -- from one number on it gives the same
+  -- where the function gives the same from one number on
   pub sum-alike : (step j n : ℕ) → ((i : ℕ) → j ≤ i → i < j + n → f i ≡ step) → sumBelow f (j + n) ≡ sumBelow f j + step * n
   sum-alike step j zero h = let e : j + 0 ≡ j = omega arith in rw e (omega arith)
   sum-alike step j (suc n) h =

@@ -33,7 +33,7 @@ answer-of e = ap (λ (o : Result ℕ (List ℕ)). o .answer) e
 pub lent-of : {one other : Result ℕ (List ℕ)} → one ≡ other → one .lent ≡ other .lent
 lent-of e = ap (λ (o : Result ℕ (List ℕ)). o .lent) e
 
--- records put to the front of the rest, lent as a part, and what all of them come to
+-- records put to the front of the rest, lent as a part, and the result that all of them make
 pub begun-put : (rs more : List Record) {old : List ℕ} {at : ℕ} {now : List ℕ} → Begun old (recordsBytes rs) at now
     → {n : ℕ} {part : List ℕ} → result n part ≡ putFront more (take (length now - at) (drop at now))
     → Begun old (recordsBytes (rs ++ more)) (at + n) (take at now ++ (part ++ drop (length now - at) (drop at now)))

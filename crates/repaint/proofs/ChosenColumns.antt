@@ -60,7 +60,7 @@ module _ (test : ℕ → Bool) where
   abbrev pub columnsCycles : ℕ → ℕ
   columnsCycles n = countBelow (begins test) n + countBelow test n
 
-  pub cycles-next : (n : ℕ) → columnsCycles (n + 1) ≡ columnsCycles n + columnCycles (passesBefore test n) (test n)
+  cycles-next : (n : ℕ) → columnsCycles (n + 1) ≡ columnsCycles n + columnCycles (passesBefore test n) (test n)
   cycles-next n = omega (arith, sum-next (λ i. if (begins test i) 1 0) n, sum-next (λ i. if (test i) 1 0) n)
 
   -- one for each column, and one more where the last of them passes
@@ -106,7 +106,7 @@ module _ (test : ℕ → Bool) where
     unfolding chosenPage
     none-chosen fails = rw (none-counted fails)
 
--- columns that all pass, after one that does or as the beginning of a run; and columns that all do not
+-- columns that all pass, after one that does or as the beginning of a run; and columns none of which does
 module _ (c : Chip) (k : ℕ) (picture : List ℕ) (r : ℕ) (test : ℕ → Bool) where
   preceded-columns : (n j : ℕ) → passesBefore test j ≡ true → ((i : ℕ) → j ≤ i → i < j + n → test i ≡ true)
       → chosenColumns c k picture r test j n ≡ tabulated (columnWrite c k picture r) j n

@@ -1,5 +1,5 @@
 -- How many cycles a sparing repaint takes: as many as its rule counts, no more than the repaint, two where nothing differs.
-use Prim.Native.Nat.{ℕ, _-_, _<_}
+use Prim.Native.Nat.{ℕ, _<_}
 use native.Mathlib.Omega.{arith}
 use mathlib.Core.Path.{_≡_, refl, sym, ap, _∙_}
 use mathlib.Core.Bool.{false, not}

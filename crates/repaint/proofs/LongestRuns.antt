@@ -47,7 +47,7 @@ module _ (c : Chip) (chip : ℕ) (picture : List ℕ) (r : ℕ) (test : ℕ → 
     counted : countBelow test segments ≡ countBelow test at + total (map (λ i. i .size) runs)
 
   module _ (from at : ℕ) (on : from ≤ at) (gap : (i : ℕ) → from ≤ i → i < at → test i ≡ false) (begins : Begins test at) where
-    -- there is none
+    -- no run is left
     no-run : segments ≤ at → Runs from at
     unfolding flatMap total
     no-run past =
@@ -60,7 +60,7 @@ module _ (c : Chip) (chip : ℕ) (picture : List ℕ) (r : ℕ) (test : ℕ → 
           counted = rw e (omega arith);
         }
 
-    -- one, and those past its end
+    -- a run, and those past its end
     one-run : (end next : ℕ) → at < segments → Goes test at end → Runs end next
         → columns next ≡ columns end → countBelow test next ≡ countBelow test end → Runs from at
     unfolding flatMap total
@@ -84,7 +84,7 @@ module _ (c : Chip) (chip : ℕ) (picture : List ℕ) (r : ℕ) (test : ℕ → 
           counted = rest .counted ∙ omega (arith, same-count, rw all at count);
         }
 
-  -- all of them: fewer than so many
+  -- all of them; `most` is at least how many columns are left
   runs-from : (most from at : ℕ) → segments ≤ at + most → from ≤ at → ((i : ℕ) → from ≤ i → i < at → test i ≡ false) → Begins test at
       → Runs from at
   runs-from zero from at enough on gap begins = no-run from at on gap begins (omega arith)

@@ -1,4 +1,4 @@
--- The next column that passes a test: it is this one or one further on, and what it is.
+-- The next column that passes a test: it is this one or one further on, and what is known of it.
 use Prim.Native.Nat.{ℕ, zero, suc, _+_, _<_, _≤_}
 use native.Mathlib.Omega.{arith}
 use mathlib.Core.Path.{_≡_}
@@ -19,7 +19,7 @@ module _ (test : ℕ → Bool) where
     unfolding nextColumn
     next-later fails = rw (more, fails)
 
-  -- it is the first of n from the j-th on
+  -- a column is the first of n, from column j on, that passes, or the one past them
   pub record Next (j n at : ℕ) : Type 0 where
     pub from : j ≤ at
     pub to : at ≤ j + n

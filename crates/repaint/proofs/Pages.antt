@@ -43,7 +43,7 @@ module _
   abbrev p₄ : Panel
   p₄ = after p₃ (page 1 1)
 
-  -- a page whose bytes are those of the beginning
+  -- a page that holds what it held when the repaint began
   next : (k r : ℕ) → k < 2 → r < 2 → (q : Panel) → Quiet p q
       → ((column : ℕ) → column < 80 → byteAt (ramAt q k) (hiddenPage (chipAt p k) r) column ≡ byteAt (ramAt p k) (hiddenPage (chipAt p k) r) column)
       → Painted p ready picture (page k r) q (after q (page k r)) k r

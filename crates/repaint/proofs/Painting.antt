@@ -74,12 +74,12 @@ module _
   abbrev write : ℕ → Record
   write = columnWrite c k picture r
 
-  -- the chip is at the page, and at the j-th column where the one before it was written
+  -- the chip is at the page, and at column j where the one before it was written
   pub record Stands (q : Panel) (j : ℕ) : Type 0 where
     pub at-page : chipAt q k .page ≡ page
     pub at-column : passesBefore test j ≡ true → chipAt q k .column ≡ base + j
 
-  -- what the records of n columns from the j-th on leave
+  -- what the records of n columns from column j on leave
   pub record Wrote (rs : List Record) (q s : Panel) (j n : ℕ) : Type 0 where
     pub stops : Stops panelStep (Quiet p) q rs
     pub quiet : Quiet p s
@@ -132,7 +132,7 @@ module _
           other-ram = write-moved .other-ram;
         })
 
-  -- a column that does not pass
+  -- columns none of which passes
   none-written : (q : Panel) (j n : ℕ) → Quiet p q → Stands q (j + n) → ((i : ℕ) → j ≤ i → i < j + n → test i ≡ true → ⊥)
       → Wrote [] q (after q []) j n
   none-written q j n quiet stands none =
@@ -146,7 +146,7 @@ module _
         other-ram = λ i d. refl;
       })
 
-  -- a column set before
+  -- a column set, then records that leave this
   set-first : (q : Panel) (j n : ℕ) {rs : List Record} {page′ column : ℕ} → Quiet p q
       → PlaceSet p q (stepped q (set j)) k (set j) page′ column
       → Wrote rs (stepped q (set j)) (after (stepped q (set j)) rs) j n → Wrote (set j ∷ rs) q (after q (set j ∷ rs)) j n

@@ -20,7 +20,7 @@ use Rattle.repaint.specs.SparingPromises.{BandHeld}
 use Rattle.repaint.proofs.Page.{InBand}
 use Rattle.repaint.proofs.Turn.{Turned, TurnDone, turn-done, half-wanted}
 
--- the hidden pages of a panel hold the picture on another panel, and every other byte is as it was
+-- on another panel the picture stands where the hidden pages of the first one are, and every other byte is that of the first
 pub record Brought (p : Panel) (picture : List ℕ) (s : Panel) : Type 0 where
   pub held : (k r : ℕ) → k < 2 → r < 2 → BandHeld (chipAt p k) k picture r (ramAt s k)
   pub others : (k : ℕ) → k < 2 → (page column : ℕ) → column < 80 → ((r : ℕ) → r < 2 → InBand (chipAt p k) r page column → ⊥)

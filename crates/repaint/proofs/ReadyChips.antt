@@ -1,4 +1,4 @@
--- Ready chips, with picture and output buffer of the right sizes: number 0, as place how many records they are, and the records.
+-- Ready chips, with picture and output buffer of the right sizes: number 0, the number of records as place, and the records.
 use Prim.Native.Nat.{ℕ, _*_}
 use mathlib.Core.Path.{_≡_, refl}
 use mathlib.Core.Bool.{Bool, true, false, not, _&&_, _||_, false≢true}

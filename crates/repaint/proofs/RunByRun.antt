@@ -17,13 +17,13 @@ use Rattle.repaint.specs.Sparing.{passesBefore, columnRecords, chosenCol
 use Rattle.repaint.proofs.ChosenColumns.{run-columns, gap-columns}
 use Rattle.repaint.proofs.NextColumn.{next-is}
 
--- a run begins at the j-th column, unless that is past the last
+-- a run begins at column j, unless that is past the last
 pub record Begins (test : ℕ → Bool) (j : ℕ) : Type 0 where
   pub within : j ≤ segments
   pub passes : j < segments → test j ≡ true
   pub unpreceded : j < segments → passesBefore test j ≡ false
 
--- it goes to before this column
+-- the run from column j on ends just before this one
 pub record Goes (test : ℕ → Bool) (j end : ℕ) : Type 0 where
   pub longer : j < end
   pub within : end ≤ segments
@@ -48,11 +48,11 @@ module _ (test : ℕ → Bool) where
         ends = λ h. not-true (test end) (next .found (omega arith));
       }
 
-  -- no run begins at its end
+  -- at the column past a run no run begins, since that does not pass
   pub past-run : {j end : ℕ} → Goes test j end → end < segments → test end ≡ true → passesBefore test end ≡ false
   past-run goes h passes = absurd (true≢false (sym passes ∙ goes .ends h))
 
-  -- no column passes just before one that the columns between do not
+  -- past columns that do not pass, none passes just before; where there is no column between, this is given
   unpreceded : (j from : ℕ) → from ≤ j → ((i : ℕ) → from ≤ i → i < j → test i ≡ false) → (j ≡ from → passesBefore test j ≡ false)
       → passesBefore test j ≡ false
   unpreceded zero from h fails first = refl
@@ -62,7 +62,7 @@ module _ (test : ℕ → Bool) where
       (λ t. let d = eqb-false (suc j) from t in fails j (omega arith) (omega arith))
       (tested (eqb (suc j) from))
 
-  -- the next run begins past columns that do not pass, of which the first is one where there is a column before them
+  -- the next run from a column on, at which one begins only if no column passes just before it: where it begins, and the columns up to there
   module _ (from at : ℕ) (inside : from ≤ segments) (is : at ≡ nextColumn test from (segments - from))
       (first : from < segments → test from ≡ true → passesBefore test from ≡ false) where
     pub run-begins : Begins test at

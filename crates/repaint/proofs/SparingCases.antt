@@ -37,7 +37,7 @@ module _ (p : Panel) (picture buffer : List ℕ) where
   given = let n = sparingCycles p picture in result (verdict 0 n) (recordsBytes (sparingRecords p picture) ++ drop (4 * n) buffer)
 
   -- no place is over 254
-  pub places-few : sparingOf p picture buffer .answer .place ≤ 254
+  places-few : sparingOf p picture buffer .answer .place ≤ 254
   unfolding sparingOf
   places-few = call-place table buffer given (λ at. at ≤ 254) (search needs) (λ _. omega (arith, sparing-few p picture))
 

@@ -21,7 +21,8 @@ use Rattle.frame.specs.Frame.{frameOf}
 use Rattle.repaint.specs.Repaint.{pictureLength, hiddenPages, lineTurns, repaintRecords, repaintSizesWrong, repaintOf}
 use Rattle.repaint.specs.Sparing.{sparingPages, sparingRecords, sparingCycles, sparingOf}
 use Rattle.repaint.specs.TearFree.{BothReady, Sending, sentSoFar, leaves, shown, Refused, Accepted, Safe, AllSafe}
-use Rattle.repaint.specs.TearFree.{Request, quietOf, asked, TearFree, PlainRequest, plainAsked, PlainTearFree}
+use Rattle.repaint.specs.TearFree.{Request, quietOf, asked, TearFree}
+use Rattle.repaint.specs.TearFree.{PlainRequest, plainAsked, PlainTearFree}
 use Rattle.repaint.proofs.Frames.{shown-frame, frame-given}
 use Rattle.repaint.proofs.Counts.{pages-length, sparing-length}
 use Rattle.repaint.proofs.Plan.{Plan, Repaints, plan-repaints}

@@ -45,7 +45,7 @@ recordsByRuns c chip picture r [] = []
 recordsByRuns c chip picture r (s ∷ more) = pageSet c chip r ∷ flatMap (λ i. runRecords c chip picture r (i .start) (i .size)) (s ∷ more)
 
 -- the records of a page, defined column by column, are those of that rule: there are stretches that are the longest runs of its 61 columns and give
--- these records; their number and their columns are those that the count of cycles has
+-- these records; how many they are and how many columns they have is what the count of cycles has
 pub record ByLongestRuns (c : Chip) (chip : ℕ) (picture : List ℕ) (r : ℕ) (test : ℕ → Bool) : Type 0 where
   pub runs : List Stretch
   pub longest : LongestRuns test segments 0 runs

@@ -26,7 +26,7 @@ fn sparing_sizes_wrong(ram: usize, picture: usize, output: usize) -> bool
     sizes_wrong(picture, output)
 }
 
-// The records of a sparing repaint, written to the front of the output buffer; gives the bytes that they are.
+// The records of a sparing repaint, written to the front of the output buffer; gives how many bytes they are.
 fn put_sparing(left: Chip, right: Chip, ram: &[u8], picture: &[u8], output: &mut [u8]) -> usize
     requires { ⌜ length (now ram) ≡ imageLength ⌝ }
     requires { ⌜ length (now picture) ≡ pictureLength ⌝ }

@@ -1,5 +1,5 @@
-// The records that a sparing repaint sends to one hidden page: those for the columns that differ from the picture, written
-// to the front of a lent part of the output buffer.
+// The records that a sparing repaint sends to a chip's hidden pages: those for the columns that differ from the picture,
+// written to the front of a lent part of the output buffer.
 ghost use Prim.Native.Nat.{_+_, _-_, _*_, _<_, _≤_};
 ghost use mathlib.Core.Path.{_≡_};
 ghost use lib.ListN.{length};
@@ -31,7 +31,7 @@ fn column_differs(chip: Chip, which: u8, ram: &[u8], picture: &[u8], band: u8, j
     held != picture_byte(picture, which, column_segment(chip, j), band)
 }
 
-// The first column, from one on, that differs, or the one past the last.
+// The first column that differs, of those from `from` on, or the one past the last.
 fn next_changed(chip: Chip, which: u8, ram: &[u8], picture: &[u8], band: u8, from: usize) -> usize
     requires { ⌜ length (now ram) ≡ ramLength ⌝ }
     requires { ⌜ length (now picture) ≡ pictureLength ⌝ }
@@ -48,7 +48,8 @@ fn next_changed(chip: Chip, which: u8, ram: &[u8], picture: &[u8], band: u8, fro
     j
 }
 
-// The data writes of a run that begins at a column; gives the bytes that they are.
+// The data writes of the run that begins at `from`, up to the first column that does not differ; gives how many bytes they
+// are.
 fn put_run_writes(
     chip: Chip,
     which: u8,
@@ -81,7 +82,7 @@ fn put_run_writes(
     bytes
 }
 
-// The records of the columns that differ, run by run, where the first is known; gives the bytes that they are.
+// The records of the columns that differ, run by run, where the first is known; gives how many bytes they are.
 fn put_columns(
     chip: Chip,
     which: u8,
@@ -113,7 +114,7 @@ fn put_columns(
     at
 }
 
-// A hidden page: nothing where no column differs, else its number and the columns that do; gives the bytes written.
+// A hidden page: nothing where no column differs, else the page set and the columns that do; gives how many bytes it wrote.
 fn put_changed_page(
     chip: Chip,
     which: u8,
@@ -147,7 +148,7 @@ fn put_changed_page(
         )
 }
 
-// Both hidden pages of a chip; gives the bytes written.
+// Both hidden pages of a chip; gives how many bytes it wrote.
 pub(crate) fn put_changed_pages(
     chip: Chip,
     which: u8,

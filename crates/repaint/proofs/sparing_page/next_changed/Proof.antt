@@ -1,4 +1,4 @@
--- `repaint::sparing_page::next_changed` meets its contract: the column looked for is the one from here on.
+-- `repaint::sparing_page::next_changed` meets its contract: a search from here on finds the same column.
 use Prim.Native.Nat.{suc, _+_, _-_}
 use native.Mathlib.Omega.{arith}
 use mathlib.Core.Path.{_≡_, refl, sym, _∙_}

@@ -65,28 +65,28 @@ put-run-writes-requires c κs =
       (pre .1 .0, (pre .1 .1 .0, (omega arith, simp (length-take, length-drop) (omega (arith, room in-loop))))),
     )
 
--- the start of the loop's turn, and where the run goes to
-abbrev turn : tie.After-put-run-writes Inv-loop μ-loop → tie.In-loop Inv-loop μ-loop
-turn c = c .before .before .before .before .before .before
+-- the beginning of this pass of the loop, and where the run goes to
+abbrev pass : tie.After-put-run-writes Inv-loop μ-loop → tie.In-loop Inv-loop μ-loop
+pass c = c .before .before .before .before .before .before
 
 abbrev start : tie.After-put-run-writes Inv-loop μ-loop → tie.Start Inv-loop μ-loop
-start c = turn c .before .before .before .before .before
+start c = pass c .before .before .before .before .before
 
 abbrev end : tie.After-put-run-writes Inv-loop μ-loop → ℕ
-end c = let run = turn c .before .loop .run in nextColumn (λ i. not (test (start c) i)) run (segments - run)
+end c = let run = pass c .before .loop .run in nextColumn (λ i. not (test (start c) i)) run (segments - run)
 
-goes : (c : tie.After-put-run-writes Inv-loop μ-loop) → Goes (test (start c)) (turn c .before .loop .run) (end c)
-goes c = run-goes (test (start c)) (turn c .before .loop .run) (end c) (omega arith) (turn c .before .loop .inv .1 .0) refl
+goes : (c : tie.After-put-run-writes Inv-loop μ-loop) → Goes (test (start c)) (pass c .before .loop .run) (end c)
+goes c = run-goes (test (start c)) (pass c .before .loop .run) (end c) (omega arith) (pass c .before .loop .inv .1 .0) refl
 
--- the bytes of its writes, and the column past it by them
-bytes-are : (c : tie.After-put-run-writes Inv-loop μ-loop) → c .put-run-writes .result ≡ 4 * (end c - turn c .before .loop .run)
+-- how many bytes its writes are, and so the column past the run
+bytes-are : (c : tie.After-put-run-writes Inv-loop μ-loop) → c .put-run-writes .result ≡ 4 * (end c - pass c .before .loop .run)
 bytes-are c =
     let at = start c .args in
-    let run = turn c .before .loop .run in
+    let run = pass c .before .loop .run in
     answer-of (c .put-run-writes .ensures)
     ∙ ap (λ n. 4 * n) (tabulated-length (columnWrite (at .chip) (at .which) (at .picture .now) (at .band)) run (end c - run))
 
-past : (c : tie.After-put-run-writes Inv-loop μ-loop) → turn c .before .loop .run + c .put-run-writes .result / 4 ≡ end c
+past : (c : tie.After-put-run-writes Inv-loop μ-loop) → pass c .before .loop .run + c .put-run-writes .result / 4 ≡ end c
 past c = let run = goes c in omega (arith, bytes-are c, run .longer)
 
 next-changed-requires : tie.Need-next-changed-requires Inv-loop μ-loop
@@ -109,7 +109,7 @@ loop-again : tie.Need-loop-again Inv-loop μ-loop
 loop-again c =
     let put = c .before .before .before in
     let set = put .before .before .before .before in
-    let here = turn put .before in
+    let here = pass put .before in
     let at = start put .args in
     let run = goes put in
     let long = run .longer in
@@ -157,7 +157,7 @@ put-columns-spec =
     (λ c. omega (arith, room (c .before .before .before .before)))
     (λ c. omega (arith, room (c .before .before .before .before)))
     put-run-writes-requires
-    (λ c. omega (arith, fit (turn (c .before .before)), bytes-are (c .before .before), goes (c .before .before) .within))
+    (λ c. omega (arith, fit (pass (c .before .before)), bytes-are (c .before .before), goes (c .before .before) .within))
     (λ c. omega (arith, past (c .before .before), goes (c .before .before) .within))
     next-changed-requires
     loop-less

@@ -1,4 +1,5 @@
--- `repaint::sparing_page::put_run_writes` meets its contract: the writes so far are at the front, and the run ends where it ends from here on.
+-- `repaint::sparing_page::put_run_writes` meets its contract: the writes so far are at the front, and a search for the run's end
+-- from here on finds the same column.
 use Prim.Native.Nat.{ℕ, suc, _+_, _-_, _*_, _<_, _≤_}
 use native.Mathlib.Omega.{arith}
 use mathlib.Core.Path.{_≡_, refl, sym, ap, _∙_}
