@@ -1,8 +1,8 @@
 /*
  * A bar that moves to the right by a column, painted with as few records as its pixels ask for: a sparing repaint
  * compares the picture with the two pages of either chip that are hidden, and these hold what was painted before the
- * last picture. So the third picture has two columns to change: the bar of the first, and its own. Painted again the
- * bar's place of the second is cleared, too; then there is nothing left but the two start lines.
+ * last picture. So the third picture has two columns to change: the bar of the first, and its own. Painted again, it
+ * has the bar of the second to clear and its own to draw; after that only the two start lines are left.
  *
  * It prints:
  *
