@@ -14,14 +14,14 @@ use Rattle.basics.specs.Bytes.{same_bytes, copied}
 use Rattle.basics.proofs.Filling.{Begun, begun-byte}
 use Rattle.basics.proofs.Tests.{tested, both}
 
-pub same_bytes : (one other : List ℕ) → same_bytes one other ≡ true → one ≡ other
+pub same_bytes_lem : (one other : List ℕ) → same_bytes one other ≡ true → one ≡ other
 unfolding same_bytes
-same_bytes [] [] e = refl
-same_bytes [] (b ∷ rest) e = absurd (false≢true e)
-same_bytes (a ∷ more) [] e = absurd (false≢true e)
-same_bytes (a ∷ more) (b ∷ rest) e =
+same_bytes_lem [] [] e = refl
+same_bytes_lem [] (b ∷ rest) e = absurd (false≢true e)
+same_bytes_lem (a ∷ more) [] e = absurd (false≢true e)
+same_bytes_lem (a ∷ more) (b ∷ rest) e =
     let each = both (eqb a b) _ e in
-    rw (eqb-true a b each.0, same_bytes more rest each.1)
+    rw (eqb-true a b each.0, same_bytes_lem more rest each.1)
 
 self-same : (bytes : List ℕ) → same_bytes bytes bytes ≡ true
 unfolding same_bytes
@@ -32,7 +32,7 @@ pub are-same : (one other : List ℕ) → one ≡ other → same_bytes one other
 are-same one other e = rw e (self-same other)
 
 pub not_same : (one other : List ℕ) → (one ≡ other → ⊥) → same_bytes one other ≡ false
-not_same one other h = ⊎_elim (λ t. absurd (h (same_bytes one other t))) (λ t. t) (tested (same_bytes one other))
+not_same one other h = ⊎_elim (λ t. absurd (h (same_bytes_lem one other t))) (λ t. t) (tested (same_bytes one other))
 
 -- one byte more of those copied
 pub copied_more : (from : List ℕ) {old now : List ℕ} {at : ℕ} → Begun old (take at from) at now → at < length from → at < length old

@@ -12,5 +12,5 @@ pub record Result (A L : Type 0) : Type 0 where
   pub lent : L
 
 -- a result from its answer and from what the call leaves in what it was lent
-abbrev pub result : {A L : Type 0} → A → L → Result A L
-result a lent = record { answer = a; lent = lent }
+abbrev pub result_of : {A L : Type 0} → A → L → Result A L
+result_of a lent = record { answer = a; lent = lent }

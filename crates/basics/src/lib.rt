@@ -1,5 +1,8 @@
 // Choices, lists, buffers, counts, runs and tables of numbers: definitions and laws that every other crate uses; a number
 // with its place, four bytes as a number, and the copying of bytes.
+
+#![tactic(auto)]
+
 pub mod verdict;
 
 ghost use Rattle.std.specs.Prelude.{◌≡◌};

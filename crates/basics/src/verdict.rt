@@ -4,7 +4,7 @@ ghost use Rattle.basics.specs.Table.{left_then_right, verdict_by};
 ghost use Rattle.basics.specs.Verdict.{verdict};
 
 // A number of document 01's table, 0 where the call is done, and its place.
-#[derive(Drop)]
+#[derive(Clone, Copy)]
 pub struct Verdict {
     pub number: u8,
     pub place: u64,

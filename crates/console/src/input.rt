@@ -5,7 +5,7 @@ ghost use Rattle.console.specs.Input.{read_in};
 use libc::STDIN_FILENO;
 
 // What reading standard input came to: so many bytes, or a read that failed.
-#[derive(Drop)]
+#[derive(Clone, Copy)]
 pub enum Input {
     Read(usize),
     Failed,

@@ -1,4 +1,7 @@
 // What the programs share: reading standard input, text put into a lent buffer, and what a replay is lent.
+
+#![tactic(auto)]
+
 pub mod input;
 pub mod text;
 

@@ -9,7 +9,7 @@ use lib.ListN.{length}
 use borrow.Author.Rules.{rules}
 use borrow.Author.Tests.{eq-eqb}
 use Rattle.basics.specs.Table.{Cause}
-use Rattle.basics.specs.Verdict.{verdict, Result, result}
+use Rattle.basics.specs.Verdict.{verdict, Result, result_of}
 use Rattle.basics.specs.declared.verdict.Verdict.{Verdict}
 use Rattle.basics.proofs.Tests.{neither, no_other}
 use Rattle.sed1520.specs.Chip.{out_of_range}
@@ -35,7 +35,7 @@ table p buffer = frame_table (out_of_range p.left) (out_of_range p.right) (lengt
 
 -- what is given where no line holds
 abbrev given : Panel → Result Verdict (List ℕ)
-given p = result (verdict 0 frame_length) (frame_of p)
+given p = result_of (verdict 0 frame_length) (frame_of p)
 
 pub frame-numbers : FrameNumbers
 unfolding framed

@@ -102,7 +102,7 @@ module _ (ram : List ℕ) (column : ℕ) where
 -- 32 pixels by what their chip's switches say
 switched : (off static duty : Bool) (f : ℕ → ℕ)
     → packed_pixels (λ row. if off 0 (if static 1 (if (not duty && leb 16 row) 0 (f row)))) 0 32
-    ≡ if off 0 (if static 0x_ffffffff (if duty (packed_pixels f 0 32) (packed_pixels f 0 16)))
+    ≡ if off 0 (if static 0xFFFFFFFF (if duty (packed_pixels f 0 32) (packed_pixels f 0 16)))
 unfolding packed_pixels
 switched true static duty f = refl
 switched false true duty f = refl
@@ -120,7 +120,7 @@ module _ (c : Chip) (ram : List ℕ) (n : ℕ) where
       (λ i h. let e : 0 + i ≡ i = omega arith in rw e)
 
   segment-shown : segment_rows c ram n
-      ≡ if (not c.display_on) 0 (if c.static_on 0x_ffffffff (if c.duty_32 (shown 32) (shown 16)))
+      ≡ if (not c.display_on) 0 (if c.static_on 0xFFFFFFFF (if c.duty_32 (shown 32) (shown 16)))
   unfolding pixel
   segment-shown =
       switched (not c.display_on) c.static_on c.duty_32 (λ row. line_bit ram (ram_column c n) (c.start_line + row))
@@ -130,7 +130,7 @@ module _ (c : Chip) (ram : List ℕ) (n : ℕ) where
   segment-dark off = segment-shown ∙ rw off
 
   module _ (on : not c.display_on ≡ false) where
-    pub segment-lit : c.static_on ≡ true → segment_rows c ram n ≡ 0x_ffffffff
+    pub segment-lit : c.static_on ≡ true → segment_rows c ram n ≡ 0xFFFFFFFF
     segment-lit static = segment-shown ∙ rw (on, static)
 
     module _ (ram-shown : c.static_on ≡ false) where

@@ -4,7 +4,7 @@ use Rattle.basics.specs.Choice.{if}
 use Rattle.basics.specs.Halves.{part_start}
 use Rattle.basics.specs.Lists.{joined, tabulated}
 use Rattle.basics.specs.Table.{Cause, cause, left_then_right, unless_refused}
-use Rattle.basics.specs.Verdict.{verdict, Result, result}
+use Rattle.basics.specs.Verdict.{verdict, Result, result_of}
 use Rattle.basics.specs.declared.verdict.Verdict.{Verdict}
 use Rattle.sed1520.specs.Chip.{out_of_range}
 use Rattle.sed1520.specs.Memory.{ram_length, byte_at}
@@ -90,4 +90,4 @@ frame_table left right ram frame = cause 1 0 (frame_sizes_wrong ram frame) ∷ l
 unfoldable pub framed : Panel → List ℕ → Result Verdict (List ℕ)
 framed p buffer =
     unless_refused (frame_table (out_of_range p.left) (out_of_range p.right) (length p.ram) (length buffer))
-    (λ n at. result (verdict n at) buffer) (result (verdict 0 frame_length) (frame_of p))
+    (λ n at. result_of (verdict n at) buffer) (result_of (verdict 0 frame_length) (frame_of p))

@@ -2,7 +2,7 @@
 -- it: about one half, that is one chip over its 320 bytes and the 61 columns of the panel that it drives, and about where a byte stands.
 use Rattle.std.specs.Prelude.{ℕ, ◌+◌, ◌*◌, ◌/◌, ◌%◌, ◌^◌, ◌<◌, ◌≤◌, ◌≡◌, Bool, true, false, not, ◌&&◌, List, ◌⊎◌, leb, length, get_or}
 use Rattle.basics.specs.Table.{ExactlyWhen}
-use Rattle.basics.specs.Verdict.{verdict, result}
+use Rattle.basics.specs.Verdict.{verdict, result_of}
 use Rattle.sed1520.specs.Chip.{column_stop, out_of_range}
 use Rattle.sed1520.specs.Laws.{shown_by}
 use Rattle.sed1520.specs.Memory.{byte_at}
@@ -20,7 +20,7 @@ EveryPixelPlaced =
 -- chips in range over 640 bytes, a buffer of 488: number 0, the frame's length as place, and the frame in the buffer, whatever that held
 abbrev pub EveryFrameGiven : Type 0
 EveryFrameGiven =
-    (p : Panel) (buffer : List ℕ) → Whole p → length buffer ≡ frame_length → framed p buffer ≡ result (verdict 0 frame_length) (frame_of p)
+    (p : Panel) (buffer : List ℕ) → Whole p → length buffer ≡ frame_length → framed p buffer ≡ result_of (verdict 0 frame_length) (frame_of p)
 
 -- the frame's call gives each number exactly when its line of `frame_table` says so, else number 0 with the frame's length as place
 abbrev pub FrameNumbers : Type 0

@@ -1,4 +1,7 @@
 // The frame: the 488 bytes that the panel shows.
+
+#![tactic(auto)]
+
 pub mod place;
 pub mod segment;
 
@@ -8,7 +11,7 @@ ghost use Rattle.frame.specs.Frame.{frame_length, ram_column, line_bit, packed_p
 ghost use Rattle.frame.specs.Frame.{frame_of, frame_sizes_wrong, framed};
 ghost use Rattle.sed1520.specs.Chip.{column_stop};
 ghost use Rattle.sed1520.specs.Laws.{Fit};
-ghost use Rattle.basics.specs.Verdict.{result};
+ghost use Rattle.basics.specs.Verdict.{result_of};
 ghost use Rattle.panel.specs.Panel.{as_panel, Whole};
 
 use basics::verdict::Verdict;
@@ -22,14 +25,14 @@ pub const FRAME_BYTES: usize = Chip::PANEL_WIDTH * 4;
 // The RAM column of a segment.
 pub(crate) fn ram_column(chip: Chip, n: usize) -> usize
     requires { n < column_stop }
-    ensures* { λ r. ⌜ r ≡ ram_column chip n ⌝ }
+    ensures { result ≡ ram_column chip n }
 {
     if chip.reverse { 79 - n } else { n }
 }
 
 // Eight lines from a line on, out of the byte of its page and that of the page below.
 fn eight_lines(upper: u8, lower: u8, line: usize) -> u8
-    ensures* { λ r. ⌜ r ≡ (upper + 256 * lower) / 2 ^ (line % 8) % 256 ⌝ }
+    ensures { result ≡ (upper + 256 * lower) / 2 ^ (line % 8) % 256 }
 {
     let both = (upper as u16) + 256 * (lower as u16);
     ((both >> (line % 8)) % 256) as u8
@@ -40,7 +43,7 @@ fn lines_from(ram: &[u8], column: usize, line: usize) -> u8
     requires ram_len { length ram.now ≡ ram_length }
     requires column_lt_column_stop { column < column_stop }
     requires line_bound { line < 64 }
-    ensures* { λ r. ⌜ r ≡ packed_pixels (line_bit ram.now column) line 8 ⌝ }
+    ensures { result ≡ packed_pixels (line_bit ram.now column) line 8 }
 {
     let page = line % 32 / 8;
     let upper = index(page as u8, column as u8);
@@ -50,7 +53,7 @@ fn lines_from(ram: &[u8], column: usize, line: usize) -> u8
 
 // Whether duty 1/16 leaves band r dark.
 fn band_dark(chip: Chip, r: usize) -> bool
-    ensures* { λ b. ⌜ b ≡ (not chip.duty_32 && leb 2 r) ⌝ }
+    ensures { result ≡ (not chip.duty_32 && leb 2 r) }
 {
     if chip.duty_32 { false } else { 2 <= r }
 }
@@ -60,7 +63,7 @@ fn segment_byte(chip: Chip, ram: &[u8], n: usize, r: usize) -> u8
     requires fit { Fit chip ram.now }
     requires n_lt_column_stop { n < column_stop }
     requires r_bound { r < 4 }
-    ensures* { λ b. ⌜ b ≡ frame_byte chip ram.now n r ⌝ }
+    ensures { result ≡ frame_byte chip ram.now n r }
 {
     if !chip.display_on {
         return 0;
@@ -80,7 +83,7 @@ fn fill_half(chip: Chip, ram: &[u8], r: usize, half: &mut [u8])
     requires fit { Fit chip ram.now }
     requires r_bound { r < 4 }
     requires half_len_bound { length half.old ≤ column_stop }
-    ensures* { λ _. ⌜ half.new ≡ half_band (length half.old) chip ram.now r ⌝ }
+    ensures { half.new ≡ half_band (length half.old) chip ram.now r }
 {
     let mut n = 0;
     while n < half.len() {
@@ -93,7 +96,7 @@ fn fill_half(chip: Chip, ram: &[u8], r: usize, half: &mut [u8])
 fn fill(left: Chip, right: Chip, ram: &[u8], frame: &mut [u8])
     requires whole { Whole (as_panel left right ram.now) }
     requires frame_len { length frame.old ≡ frame_length }
-    ensures* { λ _. ⌜ frame.new ≡ frame_of (as_panel left right ram.now) ⌝ }
+    ensures { frame.new ≡ frame_of (as_panel left right ram.now) }
 {
     let mut r = 0;
     while r < 4 {
@@ -108,7 +111,7 @@ fn fill(left: Chip, right: Chip, ram: &[u8], frame: &mut [u8])
 
 // Number 1: an image that is not 640 bytes, or a frame buffer that is not 488.
 fn sizes_wrong(ram: usize, frame: usize) -> bool
-    ensures* { λ r. ⌜ r ≡ frame_sizes_wrong ram frame ⌝ }
+    ensures { result ≡ frame_sizes_wrong ram frame }
 {
     if ram != IMAGE_BYTES {
         return true;
@@ -118,7 +121,7 @@ fn sizes_wrong(ram: usize, frame: usize) -> bool
 
 // The frame that two chips and their image show, into a buffer of 488 bytes.
 pub fn frame(left: Chip, right: Chip, ram: &[u8], frame: &mut [u8]) -> Verdict
-    ensures* { λ r. ⌜ result r frame.new ≡ framed (as_panel left right ram.now) frame.old ⌝ }
+    ensures { result_of result frame.new ≡ framed (as_panel left right ram.now) frame.old }
 {
     if sizes_wrong(ram.len(), frame.len()) {
         return Verdict::new(1, 0);

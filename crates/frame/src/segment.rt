@@ -49,7 +49,7 @@ fn segment_rows(chip: Chip, ram: &[u8], n: usize) -> u32
         return 0;
     }
     if chip.static_on {
-        return 0x_ffff_ffff;
+        return 0xFFFF_FFFF;
     }
     let shown = turned(column_lines(ram, ram_column(chip, n)), chip.start_line);
     if chip.duty_32 {
@@ -60,7 +60,7 @@ fn segment_rows(chip: Chip, ram: &[u8], n: usize) -> u32
 }
 
 // What is given back of a segment: 0 with its 32 pixels, row 0 lowest, or the number of a refusal with none.
-#[derive(Drop)]
+#[derive(Clone, Copy)]
 pub struct Segment {
     pub number: u8,
     pub pixels: u32,

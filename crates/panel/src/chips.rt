@@ -15,7 +15,7 @@ pub const IMAGE_BYTES: usize = 2 * Chip::RAM_WIDTH;
 pub type BothChips = [u8; CHIPS_BYTES];
 
 // Both chips.
-#[derive(Drop)]
+#[derive(Clone, Copy)]
 pub struct Chips {
     pub left: Chip,
     pub right: Chip,

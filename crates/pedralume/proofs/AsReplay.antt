@@ -7,7 +7,7 @@ use lib.Dec.{ltb, eqb}
 use lib.ListN.{length, drop}
 use borrow.Author.Tests.{lt-ltb, le-ltb, eq-eqb, ne_eqb}
 use Rattle.basics.specs.Table.{cause, unless_refused}
-use Rattle.basics.specs.Verdict.{verdict, Result, result}
+use Rattle.basics.specs.Verdict.{verdict, Result, result_of}
 use Rattle.basics.specs.declared.verdict.Verdict.{Verdict}
 use Rattle.basics.proofs.Tests.{when-both}
 use Rattle.sed1520.specs.Chip.{in_range}
@@ -31,7 +31,7 @@ module _ (p : Panel) (trace answers buffer : List ℕ) (room : 2 * (length trace
   given_by o =
       let n = o.answer.number in
       unless_refused (cause n o.answer.place (not (eqb n 0)) ∷ cause 15 (length entries) (ltb (length buffer) (8 * length entries)) ∷ [])
-      (λ n at. result (verdict n at) buffer) (result (verdict 0 (length entries)) (entries_bytes entries ++ drop (8 * length entries) buffer))
+      (λ n at. result_of (verdict n at) buffer) (result_of (verdict 0 (length entries)) (entries_bytes entries ++ drop (8 * length entries) buffer))
 
   abbrev By : Result Verdict (List ℕ) → ReplayOutcome → Type 0
   By x o = x ≡ given_by o

@@ -8,7 +8,7 @@ use lib.Seq.{take_at, drop_at}
 use borrow.Author.Tests.{eq-eqb, ne_eqb}
 use Rattle.basics.proofs.Parts.{rest}
 use Rattle.panel.specs.Chips.{chips_in}
-use Rattle.basics.specs.Verdict.{Result, result}
+use Rattle.basics.specs.Verdict.{Result, result_of}
 use Rattle.panel.specs.declared.chips.Chips.{Chips}
 use Rattle.sed1520.specs.Replies.{InPlace, in_place}
 use Rattle.trace.specs.Feed.{open_of, close_of}
@@ -64,13 +64,13 @@ module _ (feed ram part answers : List ℕ) where
         (part-whole (read ∙ ap progress_in (rest feed 24)) i went)
 
 module _ (feed : List ℕ) where
-  pub close-length : (length feed ≡ 48 → ⊥) → result (feed_packed 1 0) feed ≡ close_call feed
+  pub close-length : (length feed ≡ 48 → ⊥) → result_of (feed_packed 1 0) feed ≡ close_call feed
   unfolding close_call
   close-length h = rw (ne_eqb (length feed) 48 h)
 
   -- what a close leaves, from what it gave
   abbrev pub close_left : Progress → Fed → Result ℕ (List ℕ)
-  close_left t o = result (tally_packed o.tally) (take 24 feed ++ kept_or t.ending o.tally.number (drop 24 feed) o.feed.progress)
+  close_left t o = result_of (tally_packed o.tally) (take 24 feed ++ kept_or t.ending o.tally.number (drop 24 feed) o.feed.progress)
 
   module _ (h : length feed ≡ 48) (t : Progress) where
     pub close-whole : t ≡ progress_in (drop 24 feed) → (o : Fed) → o ≡ close_of (feed_in (take 24 feed) t) → close_left t o ≡ close_call feed
@@ -79,23 +79,23 @@ module _ (feed : List ℕ) where
 
     pub close-done : t ≡ progress_in (behind feed) → (o : Fed) → o ≡ close_of (feed_in (take 24 feed) t) → (back : List ℕ)
         → back ≡ kept_or t.ending o.tally.number (behind feed) o.feed.progress
-        → result (tally_packed o.tally) (put_behind feed back) ≡ close_call feed
+        → result_of (tally_packed o.tally) (put_behind feed back) ≡ close_call feed
     close-done read o closed back written =
         rw (put-behind feed back, written, rest feed 24) (close-whole (read ∙ ap progress_in (rest feed 24)) o closed)
 
 module _ (feed chips : List ℕ) where
-  pub open-feed : (length feed ≡ 48 → ⊥) → result (feed_packed 1 0) feed ≡ open_call feed chips
+  pub open-feed : (length feed ≡ 48 → ⊥) → result_of (feed_packed 1 0) feed ≡ open_call feed chips
   unfolding open_call
   open-feed h = rw (ne_eqb (length feed) 48 h)
 
   module _ (h : length feed ≡ 48) where
-    pub open-chips : (length chips ≡ 24 → ⊥) → result (feed_packed 1 0) feed ≡ open_call feed chips
+    pub open-chips : (length chips ≡ 24 → ⊥) → result_of (feed_packed 1 0) feed ≡ open_call feed chips
     unfolding open_call
     open-chips k = rw (eq-eqb (length feed) 48 h, ne_eqb (length chips) 24 k)
 
     pub open_done : length chips ≡ 24 → (both : Chips) → both ≡ chips_in chips → (o : Fed) → o ≡ open_of both.left both.right
         → (copied : List ℕ) → copied ≡ chips → let whole = copied ++ drop 24 feed in (back : List ℕ) → back ≡ progress_bytes o.feed.progress
-        → result (tally_packed o.tally) (put_behind whole back) ≡ open_call feed chips
+        → result_of (tally_packed o.tally) (put_behind whole back) ≡ open_call feed chips
     unfolding open_call
     open_done k both read o opened copied same back written =
         let whole = copied ++ drop 24 feed in

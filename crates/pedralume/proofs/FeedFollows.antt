@@ -7,7 +7,7 @@ use lib.Dec.{eqb}
 use lib.ListN.{length, take, drop}
 use borrow.Author.Tests.{eq-eqb}
 use Rattle.basics.specs.Choice.{if}
-use Rattle.basics.specs.Verdict.{result}
+use Rattle.basics.specs.Verdict.{result_of}
 use Rattle.basics.proofs.Table.{each_line}
 use Rattle.basics.proofs.Tests.{when}
 use Rattle.sed1520.specs.ChipBytes.{bytes_pass}
@@ -115,7 +115,7 @@ module _ (f : Feed) (ram part answers : List ℕ) where
       sym done ∙ rw (chips-after, over-bytes, behind f, kept)
 
 module _ (f : Feed) where
-  close_follows : let o = close_of f in close_call (feed_bytes f) ≡ result (tally_packed o.tally) (feed_bytes o.feed)
+  close_follows : let o = close_of f in close_call (feed_bytes f) ≡ result_of (tally_packed o.tally) (feed_bytes o.feed)
   close_follows =
       let o = close_of f in
       let e : o ≡ close_of (feed_in (take 24 (feed_bytes f)) f.progress) = rw (front f) (rw (two-there f.left f.right)) in
@@ -131,7 +131,7 @@ open-chips left right =
     (λ _. refl)
 
 open-follows : (feed : List ℕ) (left right : Chip) → length feed ≡ 48 → let o = open_of left right in
-    open_call feed (chips_bytes left right) ≡ result (tally_packed o.tally) (feed_bytes o.feed)
+    open_call feed (chips_bytes left right) ≡ result_of (tally_packed o.tally) (feed_bytes o.feed)
 unfolding open_call
 open-follows feed left right h =
     rw (eq-eqb (length feed) 48 h, eq-eqb (length (chips_bytes left right)) 24 (two-length left right), two-there left right)

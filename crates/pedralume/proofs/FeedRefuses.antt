@@ -12,7 +12,7 @@ use lib.Seq.{get_or-drop, length-take-le}
 use borrow.Author.Tests.{eqb-true, eqb-false, eq-eqb, ne_eqb}
 use Rattle.basics.specs.Choice.{if}
 use Rattle.basics.specs.Table.{Cause, cause, left_then_right, First, NoneHolds}
-use Rattle.basics.specs.Verdict.{result}
+use Rattle.basics.specs.Verdict.{result_of}
 use Rattle.basics.proofs.Tests.{tested}
 use Rattle.sed1520.specs.ChipBytes.{bytes_pass}
 use Rattle.panel.specs.Chips.{chips_in}
@@ -52,7 +52,7 @@ module _ (feed : List ℕ) (h : length feed ≡ 48) (n at : ℕ) where
     part_stays ram part answers e =
         sym (part-whole feed ram part answers h t refl _ (sym e)) ∙ rw same (rw (take-append-drop 24 feed))
 
-    pub close-stays : close_of (feed_in (take 24 feed) t) ≡ fed_with (feed_in (take 24 feed) t) n at → close_call feed ≡ result (feed_packed n at) feed
+    pub close-stays : close_of (feed_in (take 24 feed) t) ≡ fed_with (feed_in (take 24 feed) t) n at → close_call feed ≡ result_of (feed_packed n at) feed
     close-stays e = sym (close-whole feed h t refl _ (sym e)) ∙ rw same (rw (take-append-drop 24 feed))
 
 -- the bytes of a stopped feed
@@ -115,7 +115,7 @@ module _ (feed : List ℕ) (h : length feed ≡ 48) where
         part_stays feed h n at (rw e (part-refuses read (length ram) (length part) (length answers) n at line)) ram part answers
         (still_open _ ram part answers _ size e ∙ sym (not_taken _ ram part answers _ size n at line))
 
-    close-call-refused : First (feed_bytes_table feed) n at → close_call feed ≡ result (feed_packed n at) feed
+    close-call-refused : First (feed_bytes_table feed) n at → close_call feed ≡ result_of (feed_packed n at) feed
     close-call-refused first =
         let line = subst (λ (t : List Cause). First t n at) (sym same-state) first in
         let e = is_open other in
@@ -150,7 +150,7 @@ module _ (feed : List ℕ) (h : length feed ≡ 48) where
 -- an opening's number 2
 module _ (feed chips : List ℕ) (h : length feed ≡ 48) (k : length chips ≡ 24) (n at : ℕ) where
   open-call-state : First (left_then_right 2 (not (bytes_pass (take 12 chips))) (not (bytes_pass (drop 12 chips))) []) n at
-      → open_call feed chips ≡ result (feed_packed n at) (chips ++ progress_bytes (begun (Stopped n at)))
+      → open_call feed chips ≡ result_of (feed_packed n at) (chips ++ progress_bytes (begun (Stopped n at)))
   unfolding open_call
   open-call-state first =
       let line : First (of_feed feed_table (feed_in chips (begun Open))) n at =
@@ -158,7 +158,7 @@ module _ (feed chips : List ℕ) (h : length feed ≡ 48) (k : length chips ≡ 
       (⊎_elim (λ here. inl here) (λ later. inr (later.0, ⊎_elim (λ here. inl here) (λ none. absurd none.1) later.1)) first) in
       rw (eq-eqb (length feed) 48 h, eq-eqb (length chips) 24 k, open-refused (chips_in chips).left (chips_in chips).right n at line)
 
-open-sizes : (feed chips : List ℕ) → (length chips ≡ 24 → ⊥) → open_call feed chips ≡ result (feed_packed 1 0) feed
+open-sizes : (feed chips : List ℕ) → (length chips ≡ 24 → ⊥) → open_call feed chips ≡ result_of (feed_packed 1 0) feed
 open-sizes feed chips wrong =
     ⊎_elim
     (λ t. sym (open-chips feed chips (eqb-true (length feed) 48 t) wrong))

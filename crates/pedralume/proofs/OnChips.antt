@@ -5,7 +5,7 @@ use mathlib.Core.List.{List}
 use lib.ListN.{length}
 use borrow.Author.Tests.{eq-eqb, ne_eqb}
 use Rattle.panel.specs.Chips.{chips_in}
-use Rattle.basics.specs.Verdict.{Result, result}
+use Rattle.basics.specs.Verdict.{Result, result_of}
 use Rattle.basics.specs.declared.verdict.Verdict.{Verdict}
 use Rattle.panel.specs.declared.chips.Chips.{Chips}
 use Rattle.sed1520.specs.declared.registers.Chip.{Chip}
@@ -26,5 +26,5 @@ module _ (chips buffer : List ℕ) (call : Chip → Chip → Result ℕ (List �
   called h both read given e = e ∙ rw read (sym (on-chips h))
 
 -- a place that fits, read off what the callee left
-pub place-fits : {v : Verdict} {buffer : List ℕ} (o : Result Verdict (List ℕ)) → result v buffer ≡ o → o.answer.place < 65536 → v.place < 65536
+pub place-fits : {v : Verdict} {buffer : List ℕ} (o : Result Verdict (List ℕ)) → result_of v buffer ≡ o → o.answer.place < 65536 → v.place < 65536
 place-fits o e h = rw (ap (λ (f : Result Verdict (List ℕ)). f.answer.place) e) h

@@ -1,6 +1,6 @@
 -- The order between the chips does not matter (request C-18), with what the panel shows at the end, and in what the C calls give back and leave.
 use Rattle.std.specs.Prelude.{ℕ, ◌*◌, ◌/◌, ◌≤◌, ◌≡◌, List, length}
-use Rattle.basics.specs.Verdict.{verdict, result}
+use Rattle.basics.specs.Verdict.{verdict, result_of}
 use Rattle.frame.specs.Frame.{frame_length, frame_of, framed}
 use Rattle.panel.specs.Panel.{image_length, Panel}
 use Rattle.sed1520.specs.Replies.{InPlace}
@@ -15,7 +15,7 @@ pub record SameReplays (trace other : List ℕ) (one two : WithWear ReplayOutcom
   pub end : SameEnd trace other one.outcome two.outcome
   pub wear : one.wear ≡ two.wear
   pub frame : (buffer : List ℕ) → length buffer ≡ frame_length
-      → let shown = result (verdict 0 frame_length) (frame_of (panel_after one.outcome)) in
+      → let shown = result_of (verdict 0 frame_length) (frame_of (panel_after one.outcome)) in
       (framed (panel_after one.outcome) buffer ≡ shown) × (framed (panel_after two.outcome) buffer ≡ shown)
 
 -- what is the same after the C calls of replay on a trace and on its reordering: the 64-bit number, with number, place and both counts; the

@@ -1,6 +1,6 @@
 -- The list of changes and the replay refuse alike: what is proved of both together.
 use Rattle.std.specs.Prelude.{ℕ, ◌*◌, ◌/◌, ◌<◌, ◌≤◌, ◌≡◌, List, ◌++◌, length, drop}
-use Rattle.basics.specs.Verdict.{verdict, result}
+use Rattle.basics.specs.Verdict.{verdict, result_of}
 use Rattle.sed1520.specs.Records.{whole_records}
 use Rattle.panel.specs.Panel.{Panel}
 use Rattle.trace.specs.Replay.{tally_verdict, replay_of}
@@ -10,11 +10,11 @@ use Rattle.visible.specs.Changes.{all_entries, entries_bytes, changes_of}
 -- need more than the room, with their full number as place; else it gives them all
 pub record AsReplay (p : Panel) (trace answers buffer : List ℕ) : Type 0 where
   pub refused : ((replay_of p trace answers).answer.number ≡ 0 → ⊥)
-      → changes_of p trace buffer ≡ result (tally_verdict (replay_of p trace answers).answer) buffer
+      → changes_of p trace buffer ≡ result_of (tally_verdict (replay_of p trace answers).answer) buffer
   pub short : (replay_of p trace answers).answer.number ≡ 0 → let entries = all_entries p (whole_records trace) in
-      length buffer < 8 * length entries → changes_of p trace buffer ≡ result (verdict 15 (length entries)) buffer
+      length buffer < 8 * length entries → changes_of p trace buffer ≡ result_of (verdict 15 (length entries)) buffer
   pub done : (replay_of p trace answers).answer.number ≡ 0 → let entries = all_entries p (whole_records trace) in 8 * length entries ≤ length buffer
-      → changes_of p trace buffer ≡ result (verdict 0 (length entries)) (entries_bytes entries ++ drop (8 * length entries) buffer)
+      → changes_of p trace buffer ≡ result_of (verdict 0 (length entries)) (entries_bytes entries ++ drop (8 * length entries) buffer)
 
 -- AsReplay holds whatever is lent, where the replay has room for its answers
 abbrev pub EveryCallAsReplay : Type 0

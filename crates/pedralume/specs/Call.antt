@@ -4,7 +4,7 @@ use Rattle.basics.specs.Choice.{if}
 use Rattle.panel.specs.Chips.{chips_length, chips_in}
 use Rattle.sed1520.specs.declared.registers.Chip.{Chip}
 use Rattle.panel.specs.Panel.{as_panel}
-use Rattle.basics.specs.Verdict.{Result, result}
+use Rattle.basics.specs.Verdict.{Result, result_of}
 use Rattle.basics.specs.declared.verdict.Verdict.{Verdict}
 use Rattle.trace.specs.Replay.{replay_in_place}
 use Rattle.sed1520.specs.Replies.{InPlace}
@@ -20,7 +20,7 @@ packed number place compared differing = number + 256 * place + 2 ^ 24 * compare
 
 -- what a replay over chip bytes gives back and leaves, its number, place and counts packed
 abbrev pub packed_replay : InPlace Tally → InPlace ℕ
-packed_replay i = let a = i.answer in result (packed a.number a.place a.compared a.differing) i.lent
+packed_replay i = let a = i.answer in result_of (packed a.number a.place a.compared a.differing) i.lent
 
 -- the replay's call, over chip bytes
 abbrev pub replay_call : List ℕ → List ℕ → List ℕ → List ℕ → InPlace ℕ
@@ -28,7 +28,7 @@ replay_call chips ram trace answers = packed_replay (replay_in_place chips ram t
 
 -- what a call that fills one buffer gives back and leaves: a number and a place packed, both counts 0, and the buffer
 abbrev pub packed_with : List ℕ → ℕ → ℕ → Result ℕ (List ℕ)
-packed_with buffer number place = result (packed number place 0 0) buffer
+packed_with buffer number place = result_of (packed number place 0 0) buffer
 
 -- a verdict and the buffer that was filled, the number and the place packed
 abbrev pub packed_filled : Result Verdict (List ℕ) → Result ℕ (List ℕ)

@@ -2,7 +2,7 @@
 use Rattle.std.specs.Prelude.{ℕ, ◌+◌, ◌*◌, Bool, true, not, ◌||◌, List, ◌++◌, eqb, length, take, drop}
 use Rattle.basics.specs.Choice.{if}
 use Rattle.panel.specs.Chips.{chips_length, chips_in}
-use Rattle.basics.specs.Verdict.{Result, result}
+use Rattle.basics.specs.Verdict.{Result, result_of}
 use Rattle.trace.specs.Feed.{open_of, close_of}
 use Rattle.trace.specs.FeedPromises.{refuses_part}
 use Rattle.trace.specs.FeedInPlace.{feed_in, part_in_place}
@@ -34,8 +34,8 @@ kept_or e n old t = if (stays e n) old (progress_bytes t)
 unfoldable pub open_call : List ℕ → List ℕ → Result ℕ (List ℕ)
 open_call feed chips =
     let o = open_of (chips_in chips).left (chips_in chips).right in
-    if (not (eqb (length feed) feed_length) || not (eqb (length chips) chips_length)) (result (feed_packed 1 0) feed)
-    (result (tally_packed o.tally) (chips ++ progress_bytes o.feed.progress))
+    if (not (eqb (length feed) feed_length) || not (eqb (length chips) chips_length)) (result_of (feed_packed 1 0) feed)
+    (result_of (tally_packed o.tally) (chips ++ progress_bytes o.feed.progress))
 
 -- the call that gives a part: number 1 where the feed's bytes are not 48; else the part is given to the feed that lies there
 unfoldable pub part_call : List ℕ → List ℕ → List ℕ → List ℕ → InPlace ℕ
@@ -52,5 +52,5 @@ unfoldable pub close_call : List ℕ → Result ℕ (List ℕ)
 close_call feed =
     let t = progress_in (drop chips_length feed) in
     let o = close_of (feed_in (take chips_length feed) t) in
-    if (not (eqb (length feed) feed_length)) (result (feed_packed 1 0) feed)
-    (result (tally_packed o.tally) (take chips_length feed ++ kept_or t.ending o.tally.number (drop chips_length feed) o.feed.progress))
+    if (not (eqb (length feed) feed_length)) (result_of (feed_packed 1 0) feed)
+    (result_of (tally_packed o.tally) (take chips_length feed ++ kept_or t.ending o.tally.number (drop chips_length feed) o.feed.progress))

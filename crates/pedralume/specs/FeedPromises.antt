@@ -4,7 +4,7 @@ use Rattle.basics.specs.Choice.{if}
 use Rattle.sed1520.specs.ChipBytes.{chip_length, bytes_pass}
 use Rattle.panel.specs.Chips.{chips_length, chips_bytes}
 use Rattle.basics.specs.Table.{Cause, cause, left_then_right, First, NoneHolds}
-use Rattle.basics.specs.Verdict.{result}
+use Rattle.basics.specs.Verdict.{result_of}
 use Rattle.sed1520.specs.declared.registers.Chip.{Chip}
 use Rattle.trace.specs.Replay.{sizes_wrong}
 use Rattle.sed1520.specs.Replies.{in_place}
@@ -56,13 +56,13 @@ pub record FeedBytesUndo : Type 0 where
 -- each call on a feed's bytes gives back and leaves what the feed by value does, whose progress fits again
 pub record FeedCallsFollow : Type 0 where
   pub opened : (feed : List ℕ) (left right : Chip) → length feed ≡ feed_length → let o = open_of left right in
-      open_call feed (chips_bytes left right) ≡ result (tally_packed o.tally) (feed_bytes o.feed)
+      open_call feed (chips_bytes left right) ≡ result_of (tally_packed o.tally) (feed_bytes o.feed)
   pub opened-fits : (left right : Chip) → Fits (open_of left right).feed.progress
   pub part : (f : Feed) (ram part answers : List ℕ) → let o = part_of f ram part answers in
       part_call (feed_bytes f) ram part answers ≡ in_place (tally_packed o.answer) (feed_bytes o.lent.state) o.lent.ram o.lent.answers
   pub part-fits : (f : Feed) (ram part answers : List ℕ) → Fits f.progress → BytesFit part
       → Fits (part_of f ram part answers).lent.state.progress
-  pub closed : (f : Feed) → let o = close_of f in close_call (feed_bytes f) ≡ result (tally_packed o.tally) (feed_bytes o.feed)
+  pub closed : (f : Feed) → let o = close_of f in close_call (feed_bytes f) ≡ result_of (tally_packed o.tally) (feed_bytes o.feed)
   pub closed-fits : (f : Feed) → Fits f.progress → Fits (close_of f).feed.progress
 
 -- a feed whose stopped byte is 1 repeats its number and place, and every buffer stays as it came, whatever they hold
@@ -70,7 +70,7 @@ pub record StoppedBytesRepeat : Type 0 where
   pub part : (feed ram part answers : List ℕ) → length feed ≡ feed_length → get_or feed 28 0 ≡ 1
       → part_call feed ram part answers ≡ in_place (feed_packed (get_or feed 29 0) (word_at feed 32)) feed ram answers
   pub closed : (feed : List ℕ) → length feed ≡ feed_length → get_or feed 28 0 ≡ 1
-      → close_call feed ≡ result (feed_packed (get_or feed 29 0) (word_at feed 32)) feed
+      → close_call feed ≡ result_of (feed_packed (get_or feed 29 0) (word_at feed 32)) feed
 
 -- number 2 by the feed's bytes as they lie: the left chip's, the right one's, then place 3: over 3 bytes kept, compared above records, differing
 -- above compared, marks of neither a stopped feed nor an open one
@@ -90,11 +90,11 @@ part_call_table feed ram part answers =
 -- what each call refuses by its lengths, and a part and a close by their tables where the feed is not stopped: every buffer stays as it came; an
 -- opening's number 2 by the chips' bytes, which stops the feed; and where no line refuses: a part then gives none of 1, 2 and 13, a close 0 or 3
 pub record FeedCallsRefuse : Type 0 where
-  pub open-feed : (feed chips : List ℕ) → (length feed ≡ feed_length → ⊥) → open_call feed chips ≡ result (feed_packed 1 0) feed
-  pub open-chips : (feed chips : List ℕ) → (length chips ≡ chips_length → ⊥) → open_call feed chips ≡ result (feed_packed 1 0) feed
+  pub open-feed : (feed chips : List ℕ) → (length feed ≡ feed_length → ⊥) → open_call feed chips ≡ result_of (feed_packed 1 0) feed
+  pub open-chips : (feed chips : List ℕ) → (length chips ≡ chips_length → ⊥) → open_call feed chips ≡ result_of (feed_packed 1 0) feed
   pub open-state : (feed chips : List ℕ) → length feed ≡ feed_length → length chips ≡ chips_length → (n at : ℕ)
       → First (left_then_right 2 (not (bytes_pass (take chip_length chips))) (not (bytes_pass (drop chip_length chips))) []) n at
-      → open_call feed chips ≡ result (feed_packed n at) (chips ++ progress_bytes (begun (Stopped n at)))
+      → open_call feed chips ≡ result_of (feed_packed n at) (chips ++ progress_bytes (begun (Stopped n at)))
   pub part-feed : (feed ram part answers : List ℕ) → (length feed ≡ feed_length → ⊥)
       → part_call feed ram part answers ≡ in_place (feed_packed 1 0) feed ram answers
   pub part : (feed ram part answers : List ℕ) → length feed ≡ feed_length → (get_or feed 28 0 ≡ 1 → ⊥) → (n at : ℕ)
@@ -103,8 +103,8 @@ pub record FeedCallsRefuse : Type 0 where
   pub part-taken : (feed ram part answers : List ℕ) → length feed ≡ feed_length → (get_or feed 28 0 ≡ 1 → ⊥)
       → NoneHolds (part_call_table feed (length ram) (length part) (length answers))
       → refuses_part ((part_call feed ram part answers).answer % 256) ≡ false
-  pub close-feed : (feed : List ℕ) → (length feed ≡ feed_length → ⊥) → close_call feed ≡ result (feed_packed 1 0) feed
+  pub close-feed : (feed : List ℕ) → (length feed ≡ feed_length → ⊥) → close_call feed ≡ result_of (feed_packed 1 0) feed
   pub close-state : (feed : List ℕ) → length feed ≡ feed_length → (get_or feed 28 0 ≡ 1 → ⊥) → (n at : ℕ) → First (feed_bytes_table feed) n at
-      → close_call feed ≡ result (feed_packed n at) feed
+      → close_call feed ≡ result_of (feed_packed n at) feed
   pub close-done : (feed : List ℕ) → length feed ≡ feed_length → (get_or feed 28 0 ≡ 1 → ⊥) → NoneHolds (feed_bytes_table feed)
       → (close_call feed).answer ≡ feed_packed (if (eqb (get_or (drop chips_length feed) 0 0) 0) 0 3) (word_at (drop chips_length feed) 12)

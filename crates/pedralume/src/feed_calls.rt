@@ -2,7 +2,7 @@
 ghost use Rattle.std.specs.Prelude.{◌<◌, ◌≡◌, length};
 ghost use Rattle.pedralume.specs.FeedBytes.{progress_length};
 ghost use Rattle.pedralume.specs.FeedCall.{feed_packed, stays, kept_or, open_call, part_call, close_call};
-ghost use Rattle.basics.specs.Verdict.{result};
+ghost use Rattle.basics.specs.Verdict.{result_of};
 ghost use Rattle.sed1520.specs.Replies.{in_place};
 
 use crate::feed_bytes::{FEED_BYTES, progress_in, progress_out};
@@ -13,14 +13,14 @@ use trace::progress::{Ending, Progress};
 // Number and place as one 64-bit number.
 fn pack_feed(number: u8, place: u64) -> u64
     requires { place < 4294967296 }
-    ensures* { λ r. ⌜ r ≡ feed_packed number place ⌝ }
+    ensures { result ≡ feed_packed number place }
 {
     (number as u64) + 256 * place
 }
 
 // Whether a call leaves the feed's bytes as they came: the feed was stopped before, or the number is 1, 2 or 13.
 fn stays(ending: Ending, number: u8) -> bool
-    ensures* { λ r. ⌜ r ≡ stays ending number ⌝ }
+    ensures { result ≡ stays ending number }
 {
     match ending {
         Ending::Stopped(_, _) => true,
@@ -36,7 +36,7 @@ fn stays(ending: Ending, number: u8) -> bool
 // The progress written to its 24 bytes, unless the feed's bytes stay.
 fn write_back(ending: Ending, number: u8, next: Progress, bytes: &mut [u8])
     requires { length bytes.old ≡ progress_length }
-    ensures* { λ _. ⌜ bytes.new ≡ kept_or ending number bytes.old next ⌝ }
+    ensures { bytes.new ≡ kept_or ending number bytes.old next }
 {
     if stays(ending, number) {
         return;
@@ -47,7 +47,7 @@ fn write_back(ending: Ending, number: u8, next: Progress, bytes: &mut [u8])
 // Opens a feed on the chips' bytes: all 48 bytes of the feed are written, the chips as given.
 #[unsafe(no_mangle)]
 pub extern "C" fn pedralume_feed_open(feed: &mut [u8], chips: &[u8]) -> u64
-    ensures* { λ r. ⌜ result r feed.new ≡ open_call feed.old chips.now ⌝ }
+    ensures { result_of result feed.new ≡ open_call feed.old chips.now }
 {
     if feed.len() != FEED_BYTES {
         return pack_feed(1, 0);
@@ -75,8 +75,8 @@ pub extern "C" fn pedralume_feed_part(
     part: &[u8],
     answers: &mut [u8],
 ) -> u64
-    ensures* { λ r. ⌜ in_place r feed.new ram.new answers.new
-        ≡ part_call feed.old ram.old part.now answers.old ⌝ }
+    ensures { in_place result feed.new ram.new answers.new
+        ≡ part_call feed.old ram.old part.now answers.old }
 {
     if feed.len() != FEED_BYTES {
         return pack_feed(1, 0);
@@ -93,7 +93,7 @@ pub extern "C" fn pedralume_feed_part(
 // The end of the trace: the feed that lies in its 48 bytes is closed.
 #[unsafe(no_mangle)]
 pub extern "C" fn pedralume_feed_close(feed: &mut [u8]) -> u64
-    ensures* { λ r. ⌜ result r feed.new ≡ close_call feed.old ⌝ }
+    ensures { result_of result feed.new ≡ close_call feed.old }
 {
     if feed.len() != FEED_BYTES {
         return pack_feed(1, 0);

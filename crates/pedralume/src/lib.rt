@@ -1,5 +1,8 @@
 // The calls of the C side, on byte slices and one 64-bit number; those of the feed are in feed_calls. The header is
 // host/include/pedralume.h.
+
+#![tactic(auto)]
+
 mod feed_bytes;
 pub mod feed_calls;
 mod packing;
@@ -7,7 +10,7 @@ pub mod version;
 
 ghost use Rattle.std.specs.Prelude.{◌≡◌};
 ghost use Rattle.pedralume.specs.Call.{replay_call, frame_call, repaint_call, sparing_call, changes_call};
-ghost use Rattle.basics.specs.Verdict.{result};
+ghost use Rattle.basics.specs.Verdict.{result_of};
 ghost use Rattle.sed1520.specs.Replies.{in_place};
 
 use crate::packing::pack;
@@ -21,8 +24,8 @@ pub extern "C" fn pedralume_replay(
     trace: &[u8],
     answers: &mut [u8],
 ) -> u64
-    ensures* { λ r. ⌜ in_place r chips.new ram.new answers.new
-        ≡ replay_call chips.old ram.old trace.now answers.old ⌝ }
+    ensures { in_place result chips.new ram.new answers.new
+        ≡ replay_call chips.old ram.old trace.now answers.old }
 {
     let tally = trace::replay_in_place(chips, ram, trace, answers);
     pack(tally.number, tally.place, tally.compared, tally.differing)
@@ -31,7 +34,7 @@ pub extern "C" fn pedralume_replay(
 // The frame that the chips' bytes and the image show, into a frame buffer.
 #[unsafe(no_mangle)]
 pub extern "C" fn pedralume_frame(chips: &[u8], ram: &[u8], frame: &mut [u8]) -> u64
-    ensures* { λ r. ⌜ result r frame.new ≡ frame_call chips.now ram.now frame.old ⌝ }
+    ensures { result_of result frame.new ≡ frame_call chips.now ram.now frame.old }
 {
     if chips.len() != CHIPS_BYTES {
         return pack(1, 0, 0, 0);
@@ -46,7 +49,7 @@ pub extern "C" fn pedralume_frame(chips: &[u8], ram: &[u8], frame: &mut [u8]) ->
 // The records that bring a picture to the panel of the chips' bytes, into an output buffer.
 #[unsafe(no_mangle)]
 pub extern "C" fn pedralume_repaint(chips: &[u8], picture: &[u8], output: &mut [u8]) -> u64
-    ensures* { λ r. ⌜ result r output.new ≡ repaint_call chips.now picture.now output.old ⌝ }
+    ensures { result_of result output.new ≡ repaint_call chips.now picture.now output.old }
 {
     if chips.len() != CHIPS_BYTES {
         return pack(1, 0, 0, 0);
@@ -67,8 +70,8 @@ pub extern "C" fn pedralume_sparing_repaint(
     picture: &[u8],
     output: &mut [u8],
 ) -> u64
-    ensures* { λ r. ⌜ result r output.new
-        ≡ sparing_call chips.now ram.now picture.now output.old ⌝ }
+    ensures { result_of result output.new
+        ≡ sparing_call chips.now ram.now picture.now output.old }
 {
     if chips.len() != CHIPS_BYTES {
         return pack(1, 0, 0, 0);
@@ -88,8 +91,8 @@ pub extern "C" fn pedralume_changes(
     trace: &[u8],
     entries: &mut [u8],
 ) -> u64
-    ensures* { λ r. ⌜ result r entries.new
-        ≡ changes_call chips.now ram.now trace.now entries.old ⌝ }
+    ensures { result_of result entries.new
+        ≡ changes_call chips.now ram.now trace.now entries.old }
 {
     if chips.len() != CHIPS_BYTES {
         return pack(1, 0, 0, 0);

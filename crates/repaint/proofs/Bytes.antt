@@ -8,7 +8,7 @@ use mathlib.Core.List.{List, [], ◌∷◌, ◌++◌, flat_map, append_assoc, ap
 use lib.ListN.{length, take, drop, set}
 use lib.Seq.{sets-eq}
 use Rattle.basics.specs.Lists.{tabulated}
-use Rattle.basics.specs.Verdict.{Result, result}
+use Rattle.basics.specs.Verdict.{Result, result_of}
 use Rattle.basics.proofs.Filling.{Begun, begun-rest}
 use Rattle.basics.proofs.Lists.{joined-more, tabulated-length}
 use Rattle.sed1520.specs.Laws.{sent}
@@ -35,7 +35,7 @@ lent_of e = ap (λ (o : Result ℕ (List ℕ)). o.lent) e
 
 -- records put to the front of the rest, lent as a part, and the result that all of them make
 pub begun-put : (rs more : List Record) {old : List ℕ} {at : ℕ} {now : List ℕ} → Begun old (records_bytes rs) at now
-    → {n : ℕ} {part : List ℕ} → result n part ≡ put_front more (take (length now - at) (drop at now))
+    → {n : ℕ} {part : List ℕ} → result_of n part ≡ put_front more (take (length now - at) (drop at now))
     → Begun old (records_bytes (rs ++ more)) (at + n) (take at now ++ (part ++ drop (length now - at) (drop at now)))
 begun-put rs more begun {n} {part} e =
     let many : n ≡ 4 * length more = answer-of e in
@@ -48,12 +48,12 @@ pub begun-record : (rs : List Record) (r : Record) {old : List ℕ} {at : ℕ} {
 unfolding flat_map
 begun-record rs r begun e = rw (bytes-append rs (r ∷ [])) (begun-rest begun (record_bytes r) refl e)
 
-pub front-begun : (rs : List Record) {old : List ℕ} {n : ℕ} {now : List ℕ} → result n now ≡ put_front rs old → Begun old (records_bytes rs) n now
+pub front-begun : (rs : List Record) {old : List ℕ} {n : ℕ} {now : List ℕ} → result_of n now ≡ put_front rs old → Begun old (records_bytes rs) n now
 front-begun rs e =
     let many = answer-of e in
     record { size = bytes-length rs ∙ sym many; bytes = lent_of e ∙ rw many }
 
-pub begun-front : (rs : List Record) {old : List ℕ} {at : ℕ} {now : List ℕ} → Begun old (records_bytes rs) at now → result at now ≡ put_front rs old
+pub begun-front : (rs : List Record) {old : List ℕ} {at : ℕ} {now : List ℕ} → Begun old (records_bytes rs) at now → result_of at now ≡ put_front rs old
 begun-front rs begun = let many = sym begun.size ∙ bytes-length rs in rw (begun.bytes, many)
 
 -- one write more goes to the end
@@ -92,7 +92,7 @@ module _ (c : Chip) (chip : ℕ) (picture : List ℕ) (r : ℕ) (test : ℕ → 
     pub begun-run : {old : List ℕ} {at : ℕ} {now : List ℕ}
         → Begun old (records_bytes (chosen_columns c chip picture r test 0 j ++ (column_set c chip j ∷ []))) at now
         → {bytes : ℕ} {part : List ℕ}
-        → result bytes part ≡ put_front (tabulated (column_write c chip picture r) j n) (take (length now - at) (drop at now))
+        → result_of bytes part ≡ put_front (tabulated (column_write c chip picture r) j n) (take (length now - at) (drop at now))
         → Begun old (records_bytes (chosen_columns c chip picture r test 0 (j + n))) (at + bytes)
         (take at now ++ (part ++ drop (length now - at) (drop at now)))
     begun-run begun e =

@@ -18,7 +18,7 @@ module _ (left right : Chip) (picture buffer : List ℕ) (at : LeftReverse left 
   written : (repaint_of left right picture buffer).lent ≡ records_bytes (repaint_records left right picture) ++ drop 1016 buffer
   written = rw (ready-outcome left right at.left-ready at.right-ready picture buffer at.sizes)
 
-  begins : take 8 (repaint_of left right picture buffer).lent ≡ 0x02 ∷ 0x00 ∷ 0x_ba ∷ 0x00 ∷ 0x02 ∷ 0x00 ∷ 0x13 ∷ 0x00 ∷ []
+  begins : take 8 (repaint_of left right picture buffer).lent ≡ 0x02 ∷ 0x00 ∷ 0xBA ∷ 0x00 ∷ 0x02 ∷ 0x00 ∷ 0x13 ∷ 0x00 ∷ []
   unfolding flat_map joined repaint_records page_records
   begins = rw (written, at.left-line, at.reverse)
 
@@ -31,7 +31,7 @@ module _ (left right : Chip) (picture buffer : List ℕ) (at : LeftReverse left 
       (drop_at (records_bytes pages) (records_bytes (line_turns left right) ++ drop 1016 buffer) 1008
       (bytes-length pages ∙ rw (pages-length left right picture)))
 
-  ends : take 8 (drop 1008 (repaint_of left right picture buffer).lent) ≡ 0x02 ∷ 0x00 ∷ 0x_d0 ∷ 0x00 ∷ 0x02 ∷ 0x01 ∷ 0x_d0 ∷ 0x00 ∷ []
+  ends : take 8 (drop 1008 (repaint_of left right picture buffer).lent) ≡ 0x02 ∷ 0x00 ∷ 0xD0 ∷ 0x00 ∷ 0x02 ∷ 0x01 ∷ 0xD0 ∷ 0x00 ∷ []
   unfolding flat_map
   ends = rw (written, turns, at.left-line, at.right-line)
 

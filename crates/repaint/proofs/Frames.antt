@@ -3,7 +3,7 @@ use Prim.Native.Nat.{ℕ}
 use mathlib.Core.Path.{◌≡◌, ap, ◌∙◌}
 use mathlib.Core.List.{List}
 use lib.ListN.{length, replicate, length-replicate}
-use Rattle.basics.specs.Verdict.{verdict, Result, result}
+use Rattle.basics.specs.Verdict.{verdict, Result, result_of}
 use Rattle.basics.specs.declared.verdict.Verdict.{Verdict}
 use Rattle.panel.specs.Panel.{Panel}
 use Rattle.frame.specs.Frame.{frame_length, frame_of, framed}
@@ -13,7 +13,7 @@ use Rattle.repaint.specs.TearFree.{BothReady, shown, FrameGiven}
 use Rattle.repaint.proofs.Quiet.{ready-whole}
 
 module _ (p : Panel) (ready : BothReady p) where
-  call : (buffer : List ℕ) → length buffer ≡ frame_length → framed p buffer ≡ result (verdict 0 frame_length) (frame_of p)
+  call : (buffer : List ℕ) → length buffer ≡ frame_length → framed p buffer ≡ result_of (verdict 0 frame_length) (frame_of p)
   call buffer size = every-frame-given p buffer (ready-whole p ready) size
 
   pub shown-frame : shown p ≡ frame_of p

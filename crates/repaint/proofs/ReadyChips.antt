@@ -6,7 +6,7 @@ use mathlib.Core.List.{List, ◌++◌}
 use lib.Dec.{eqb}
 use lib.ListN.{length, drop}
 use Rattle.basics.specs.Table.{unless_refused}
-use Rattle.basics.specs.Verdict.{verdict, result}
+use Rattle.basics.specs.Verdict.{verdict, result_of}
 use Rattle.sed1520.specs.declared.registers.Chip.{Chip}
 use Rattle.sed1520.specs.Records.{records_bytes}
 use Rattle.panel.specs.Panel.{Panel}
@@ -33,13 +33,13 @@ ready-passes left right l r refuse done =
 
 pub ready-outcome : (left right : Chip) → Ready left → Ready right
     → (picture buffer : List ℕ) → repaint_sizes_wrong (length picture) (length buffer) ≡ false
-    → repaint_of left right picture buffer ≡ result (verdict 0 254) (records_bytes (repaint_records left right picture) ++ drop 1016 buffer)
+    → repaint_of left right picture buffer ≡ result_of (verdict 0 254) (records_bytes (repaint_records left right picture) ++ drop 1016 buffer)
 unfolding repaint_of
-ready-outcome left right l r picture buffer sizes = rw sizes (ready-passes left right l r (λ n at. result (verdict n at) buffer) _)
+ready-outcome left right l r picture buffer sizes = rw sizes (ready-passes left right l r (λ n at. result_of (verdict n at) buffer) _)
 
 pub sparing-outcome : (p : Panel) → BothReady p → (picture buffer : List ℕ) → repaint_sizes_wrong (length picture) (length buffer) ≡ false
     → let n = sparing_cycles p picture in
-    sparing_of p picture buffer ≡ result (verdict 0 n) (records_bytes (sparing_records p picture) ++ drop (4 * n) buffer)
+    sparing_of p picture buffer ≡ result_of (verdict 0 n) (records_bytes (sparing_records p picture) ++ drop (4 * n) buffer)
 unfolding sparing_of
 sparing-outcome p ready picture buffer sizes =
-    rw (ready.ram, sizes) (ready-passes p.left p.right ready.left ready.right (λ n at. result (verdict n at) buffer) _)
+    rw (ready.ram, sizes) (ready-passes p.left p.right ready.left ready.right (λ n at. result_of (verdict n at) buffer) _)

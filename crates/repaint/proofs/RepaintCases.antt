@@ -10,7 +10,7 @@ use lib.ListN.{length, drop}
 use borrow.Author.Rules.{rules}
 use borrow.Author.Tests.{eqb-true, eq-eqb, ltb-false, le-ltb, not-false}
 use Rattle.basics.specs.Table.{Cause, First, NoneHolds}
-use Rattle.basics.specs.Verdict.{verdict, Result, result}
+use Rattle.basics.specs.Verdict.{verdict, Result, result_of}
 use Rattle.basics.specs.declared.verdict.Verdict.{Verdict}
 use Rattle.basics.proofs.Table.{first-refuses, none-refuses, refusing-line, passing-table}
 use Rattle.basics.proofs.Tests.{tested, neither}
@@ -60,7 +60,7 @@ module _ (left right : Chip) (picture buffer : List ℕ) where
   table = repaint_table left right (length picture) (length buffer)
 
   abbrev given : Result Verdict (List ℕ)
-  given = result (verdict 0 254) (records_bytes (repaint_records left right picture) ++ drop 1016 buffer)
+  given = result_of (verdict 0 254) (records_bytes (repaint_records left right picture) ++ drop 1016 buffer)
 
   -- every place fits 16 bits
   pub places-small : (repaint_of left right picture buffer).answer.place < 65536
@@ -69,17 +69,17 @@ module _ (left right : Chip) (picture buffer : List ℕ) where
 
   -- the sizes right, and then the verdict on both chips: a number refuses, and number 0 gives the records
   module _ (sizes : repaint_sizes_wrong (length picture) (length buffer) ≡ false) (v : Verdict) (e : v ≡ chips_verdict left right) where
-    pub chips-refused : (v.number ≡ 0 → ⊥) → result v buffer ≡ repaint_of left right picture buffer
+    pub chips-refused : (v.number ≡ 0 → ⊥) → result_of v buffer ≡ repaint_of left right picture buffer
     unfolding repaint_of
     chips-refused nonzero =
-        sym (first-refuses (λ n at. result (verdict n at) buffer) given table v.number v.place
+        sym (first-refuses (λ n at. result_of (verdict n at) buffer) given table v.number v.place
         (inr (sizes, chip-refused left right v e nonzero)))
 
-    pub chips-ready : v.number ≡ 0 → {after : List ℕ} → after ≡ given.lent → result v after ≡ repaint_of left right picture buffer
+    pub chips-ready : v.number ≡ 0 → {after : List ℕ} → after ≡ given.lent → result_of v after ≡ repaint_of left right picture buffer
     unfolding repaint_of
     chips-ready zero written =
         rw (written, chips-done left right v e zero)
-        (sym (none-refuses (λ n at. result (verdict n at) buffer) given table (sizes, chips-pass left right v e zero)))
+        (sym (none-refuses (λ n at. result_of (verdict n at) buffer) given table (sizes, chips-pass left right v e zero)))
 
 pub repaint-numbers : RepaintNumbers
 unfolding repaint_of

@@ -9,7 +9,7 @@ use lib.Dec.{eqb}
 use lib.ListN.{length, drop, length-append}
 use borrow.Author.Rules.{rules}
 use Rattle.basics.specs.Table.{Cause}
-use Rattle.basics.specs.Verdict.{verdict, Result, result}
+use Rattle.basics.specs.Verdict.{verdict, Result, result_of}
 use Rattle.basics.specs.declared.verdict.Verdict.{Verdict}
 use Rattle.basics.proofs.Tests.{neither, no_other}
 use Rattle.basics.proofs.Table.{first-refuses, none-refuses, call-exactly, call-place}
@@ -34,7 +34,7 @@ module _ (p : Panel) (picture buffer : List ℕ) where
   table = sparing_table p.left p.right (length p.ram) (length picture) (length buffer)
 
   abbrev given : Result Verdict (List ℕ)
-  given = let n = sparing_cycles p picture in result (verdict 0 n) (records_bytes (sparing_records p picture) ++ drop (4 * n) buffer)
+  given = let n = sparing_cycles p picture in result_of (verdict 0 n) (records_bytes (sparing_records p picture) ++ drop (4 * n) buffer)
 
   -- no place is over 254
   places-few : (sparing_of p picture buffer).answer.place ≤ 254
@@ -45,7 +45,7 @@ module _ (p : Panel) (picture buffer : List ℕ) where
   places-small = omega (arith, places-few)
 
   pub wrong_size : sparing_sizes_wrong (length p.ram) (length picture) (length buffer) ≡ true
-      → sparing_of p picture buffer ≡ result (verdict 1 0) buffer
+      → sparing_of p picture buffer ≡ result_of (verdict 1 0) buffer
   unfolding sparing_of
   wrong_size wrong = rw wrong
 
@@ -53,14 +53,14 @@ module _ (p : Panel) (picture buffer : List ℕ) where
   module _
       (sizes : sparing_sizes_wrong (length p.ram) (length picture) (length buffer) ≡ false) (v : Verdict)
       (e : v ≡ chips_verdict p.left p.right) where
-    pub refused : (v.number ≡ 0 → ⊥) → result v buffer ≡ sparing_of p picture buffer
+    pub refused : (v.number ≡ 0 → ⊥) → result_of v buffer ≡ sparing_of p picture buffer
     unfolding sparing_of
     refused nonzero =
-        sym (first-refuses (λ n at. result (verdict n at) buffer) given table v.number v.place
+        sym (first-refuses (λ n at. result_of (verdict n at) buffer) given table v.number v.place
         (inr (sizes, chip-refused p.left p.right v e nonzero)))
 
-    pub accepted : v.number ≡ 0 → {n : ℕ} {after : List ℕ} → result n after ≡ put_front (sparing_records p picture) buffer
-        → result (verdict 0 (n / 4)) after ≡ sparing_of p picture buffer
+    pub accepted : v.number ≡ 0 → {n : ℕ} {after : List ℕ} → result_of n after ≡ put_front (sparing_records p picture) buffer
+        → result_of (verdict 0 (n / 4)) after ≡ sparing_of p picture buffer
     unfolding sparing_of
     accepted zero {n} written =
         let counted = cycles-counted p picture in
@@ -68,7 +68,7 @@ module _ (p : Panel) (picture buffer : List ℕ) where
         let place : n / 4 ≡ sparing_cycles p picture = omega (arith, many, counted) in
         let bytes = rw counted at (lent_of written) in
         rw (place, bytes)
-        (sym (none-refuses (λ n at. result (verdict n at) buffer) given table (sizes, chips-pass p.left p.right v e zero)))
+        (sym (none-refuses (λ n at. result_of (verdict n at) buffer) given table (sizes, chips-pass p.left p.right v e zero)))
 
 -- the sizes in numbers
 pub sparing-sizes-right : (ram picture buffer : ℕ) → sparing_sizes_wrong ram picture buffer ≡ false

@@ -9,7 +9,7 @@ use lib.Dec.{ltb}
 use lib.ListN.{length, get_or, take, drop}
 use borrow.Author.Tests.{ltb-false, le-ltb}
 use Rattle.basics.specs.Choice.{if}
-use Rattle.basics.specs.Verdict.{verdict, result}
+use Rattle.basics.specs.Verdict.{verdict, result_of}
 use Rattle.basics.proofs.Run.{accepted-at}
 use Rattle.basics.proofs.Tests.{tested, when}
 use Rattle.panel.specs.Panel.{Panel, outcome_of, panel_step, after}
@@ -36,7 +36,7 @@ pub record Planned (p : Panel) (s : Sending) : Type 0 where
   pub plan : Plan p s.picture hidden
   pub many : length hidden ≡ s.quiet
   pub rest : List ℕ
-  pub given : s.given ≡ result (verdict 0 (s.quiet + 2)) (records_bytes (hidden ++ line_turns p.left p.right) ++ rest)
+  pub given : s.given ≡ result_of (verdict 0 (s.quiet + 2)) (records_bytes (hidden ++ line_turns p.left p.right) ++ rest)
   pub within : s.stop ≤ s.quiet + 2
 
 -- such a repaint is accepted

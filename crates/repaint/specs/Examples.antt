@@ -18,6 +18,6 @@ pub record LeftReverse (left right : Chip) (picture buffer : List ℕ) : Type 0 
 pub record Examples : Type 0 where
   pub frame : FrameExamples
   pub p12-first : (left right : Chip) (picture buffer : List ℕ) → LeftReverse left right picture buffer
-      → take 8 (repaint_of left right picture buffer).lent ≡ 0x02 ∷ 0x00 ∷ 0x_ba ∷ 0x00 ∷ 0x02 ∷ 0x00 ∷ 0x13 ∷ 0x00 ∷ []
+      → take 8 (repaint_of left right picture buffer).lent ≡ 0x02 ∷ 0x00 ∷ 0xBA ∷ 0x00 ∷ 0x02 ∷ 0x00 ∷ 0x13 ∷ 0x00 ∷ []
   pub p12-last : (left right : Chip) (picture buffer : List ℕ) → LeftReverse left right picture buffer
-      → take 8 (drop 1008 (repaint_of left right picture buffer).lent) ≡ 0x02 ∷ 0x00 ∷ 0x_d0 ∷ 0x00 ∷ 0x02 ∷ 0x01 ∷ 0x_d0 ∷ 0x00 ∷ []
+      → take 8 (drop 1008 (repaint_of left right picture buffer).lent) ≡ 0x02 ∷ 0x00 ∷ 0xD0 ∷ 0x00 ∷ 0x02 ∷ 0x01 ∷ 0xD0 ∷ 0x00 ∷ []

@@ -3,7 +3,7 @@ use Rattle.std.specs.Prelude.{ℕ, suc, ◌+◌, ◌<◌, ◌≤◌, ◌≡◌, 
 use mathlib.Core.List.{List, [], ◌∷◌, ◌++◌, map, flat_map}
 use Rattle.basics.specs.Choice.{if}
 use Rattle.basics.specs.Counts.{count_below, total}
-use Rattle.basics.specs.Verdict.{verdict, result}
+use Rattle.basics.specs.Verdict.{verdict, result_of}
 use Rattle.sed1520.specs.Memory.{byte_at}
 use Rattle.sed1520.specs.Records.{records_bytes}
 use Rattle.sed1520.specs.declared.registers.Chip.{Chip}
@@ -80,7 +80,7 @@ abbrev pub EqualTakesTwo : Type 0
 EqualTakesTwo =
     (p : Panel) → BothReady p → (picture buffer : List ℕ) → repaint_sizes_wrong (length picture) (length buffer) ≡ false
     → ((k r : ℕ) → k < 2 → r < 2 → BandHeld (chip_at p k) k picture r (ram_at p k))
-    → sparing_of p picture buffer ≡ result (verdict 0 2) (records_bytes (line_turns p.left p.right) ++ drop 8 buffer)
+    → sparing_of p picture buffer ≡ result_of (verdict 0 2) (records_bytes (line_turns p.left p.right) ++ drop 8 buffer)
 
 -- the sparing repaint never sends more cycles than the repaint; both calls are accepted here (TearFree)
 abbrev pub NeverMore : Type 0

@@ -4,7 +4,7 @@
 -- before it left the panel, each stopped after any whole cycle.
 use Rattle.std.specs.Prelude.{ℕ, ◌+◌, ◌*◌, ◌≤◌, ◌<◌, ◌≡◌, Bool, true, false, ◌||◌, List, [], ◌∷◌, ◌++◌, eqb, ltb, length, get_or, drop, replicate}
 use Rattle.basics.specs.Choice.{if}
-use Rattle.basics.specs.Verdict.{verdict, Result, result}
+use Rattle.basics.specs.Verdict.{verdict, Result, result_of}
 use Rattle.basics.specs.declared.verdict.Verdict.{Verdict}
 use Rattle.sed1520.specs.Chip.{in_range}
 use Rattle.panel.specs.Panel.{image_length, Panel, outcome_of, after}
@@ -79,7 +79,7 @@ shown p = (framed p (replicate frame_length 0)).lent
 -- what the panel shows is 488 bytes, and the frame's call gives them, with number 0 and place 488, into any buffer of 488
 pub record FrameGiven (p : Panel) : Type 0 where
   pub bytes : length (shown p) ≡ frame_length
-  pub given : (buffer : List ℕ) → length buffer ≡ frame_length → framed p buffer ≡ result (verdict 0 frame_length) (shown p)
+  pub given : (buffer : List ℕ) → length buffer ≡ frame_length → framed p buffer ≡ result_of (verdict 0 frame_length) (shown p)
 
 -- the frame that a picture asks for: the picture in the upper 16 rows, the lower 16 dark
 abbrev pub wanted : List ℕ → List ℕ

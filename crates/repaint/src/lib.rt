@@ -1,10 +1,13 @@
 // The repaint: the 254 records that bring a 122 by 16 picture to the panel. The sparing repaint is in sparing.
+
+#![tactic(auto)]
+
 mod chip_plan;
 pub mod sparing;
 mod sparing_page;
 
 ghost use Rattle.std.specs.Prelude.{◌<◌, ◌≤◌, ◌≡◌, ◌++◌, length, drop};
-ghost use Rattle.basics.specs.Verdict.{result};
+ghost use Rattle.basics.specs.Verdict.{result_of};
 ghost use Rattle.sed1520.specs.Records.{records_bytes};
 ghost use Rattle.repaint.specs.Repaint.{output_length, picture_length, repaint_records, repaint_sizes_wrong, shows_no_ram, wrong_line};
 ghost use Rattle.repaint.specs.Repaint.{chips_verdict, repaint_of};
@@ -31,7 +34,7 @@ const PAGE_BYTES: usize = RECORD_BYTES * PAGE_RECORDS;
 
 // Number 1: a picture that is not 244 bytes, or an output buffer under 1,016.
 pub(crate) fn sizes_wrong(picture: usize, output: usize) -> bool
-    ensures* { λ r. ⌜ r ≡ repaint_sizes_wrong picture output ⌝ }
+    ensures { result ≡ repaint_sizes_wrong picture output }
 {
     if picture != PICTURE_BYTES {
         return true;
@@ -41,7 +44,7 @@ pub(crate) fn sizes_wrong(picture: usize, output: usize) -> bool
 
 // Number 9: display off, or static drive on.
 fn shows_no_ram(chip: Chip) -> bool
-    ensures* { λ r. ⌜ r ≡ shows_no_ram chip ⌝ }
+    ensures { result ≡ shows_no_ram chip }
 {
     if chip.display_on {
         chip.static_on
@@ -52,7 +55,7 @@ fn shows_no_ram(chip: Chip) -> bool
 
 // Number 11: a start line that is neither 0 nor 16.
 fn wrong_line(chip: Chip) -> bool
-    ensures* { λ r. ⌜ r ≡ wrong_line chip ⌝ }
+    ensures { result ≡ wrong_line chip }
 {
     if chip.start_line == 0 {
         false
@@ -64,7 +67,7 @@ fn wrong_line(chip: Chip) -> bool
 // Numbers 2 and 9 to 12, lowest first, left before right; else done. Built from the last test to the first: each value is
 // the answer from its number on.
 pub(crate) fn chips_verdict(left: Chip, right: Chip) -> Verdict
-    ensures* { λ r. ⌜ r ≡ chips_verdict left right ⌝ }
+    ensures { result ≡ chips_verdict left right }
 {
     let done = Verdict::new(0, REPAINT_RECORDS as u64);
     let modify = Verdict::unless(left.modify, right.modify, 12, done);
@@ -78,8 +81,8 @@ pub(crate) fn chips_verdict(left: Chip, right: Chip) -> Verdict
 fn put_records(left: Chip, right: Chip, picture: &[u8], output: &mut [u8])
     requires picture_len { length picture.now ≡ picture_length }
     requires output_length_in_bounds { output_length ≤ length output.old }
-    ensures* { λ _. ⌜ output.new
-        ≡ records_bytes (repaint_records left right picture.now) ++ drop output_length output.old ⌝ }
+    ensures { output.new
+        ≡ records_bytes (repaint_records left right picture.now) ++ drop output_length output.old }
 {
     put_page(left, 0, picture, 0, output);
     put_page(left, 0, picture, 1, &mut output[PAGE_BYTES..]);
@@ -91,7 +94,7 @@ fn put_records(left: Chip, right: Chip, picture: &[u8], output: &mut [u8])
 
 // The repaint of a picture on two chips, into an output buffer of at least 1,016 bytes.
 pub fn repaint(left: Chip, right: Chip, picture: &[u8], output: &mut [u8]) -> Verdict
-    ensures* { λ r. ⌜ result r output.new ≡ repaint_of left right picture.now output.old ⌝ }
+    ensures { result_of result output.new ≡ repaint_of left right picture.now output.old }
 {
     if sizes_wrong(picture.len(), output.len()) {
         return Verdict::new(1, 0);

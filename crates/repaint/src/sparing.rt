@@ -1,7 +1,7 @@
 // The sparing repaint: the records that bring a 122 by 16 picture to the panel and write, of the hidden pages, only the bytes
 // that differ from it.
 ghost use Rattle.std.specs.Prelude.{◌≤◌, ◌≡◌, length};
-ghost use Rattle.basics.specs.Verdict.{result};
+ghost use Rattle.basics.specs.Verdict.{result_of};
 ghost use Rattle.panel.specs.Panel.{image_length, as_panel};
 ghost use Rattle.repaint.specs.Repaint.{output_length, picture_length};
 ghost use Rattle.repaint.specs.Sparing.{put_front, sparing_records, sparing_sizes_wrong, sparing_of};
@@ -16,7 +16,7 @@ use sed1520::registers::Chip;
 
 // Number 1: an image that is not 640 bytes, or a size that the repaint refuses.
 fn sparing_sizes_wrong(ram: usize, picture: usize, output: usize) -> bool
-    ensures* { λ r. ⌜ r ≡ sparing_sizes_wrong ram picture output ⌝ }
+    ensures { result ≡ sparing_sizes_wrong ram picture output }
 {
     if ram != IMAGE_BYTES {
         return true;
@@ -29,8 +29,8 @@ fn put_sparing(left: Chip, right: Chip, ram: &[u8], picture: &[u8], output: &mut
     requires ram_len { length ram.now ≡ image_length }
     requires picture_len { length picture.now ≡ picture_length }
     requires output_length_in_bounds { output_length ≤ length output.old }
-    ensures* { λ r. ⌜ result r output.new
-        ≡ put_front (sparing_records (as_panel left right ram.now) picture.now) output.old ⌝ }
+    ensures { result_of result output.new
+        ≡ put_front (sparing_records (as_panel left right ram.now) picture.now) output.old }
 {
     let half = put_changed_pages(left, 0, &ram[0..Chip::RAM_WIDTH], picture, output);
     let pages = half
@@ -54,8 +54,8 @@ pub fn sparing_repaint(
     picture: &[u8],
     output: &mut [u8],
 ) -> Verdict
-    ensures* { λ r. ⌜ result r output.new
-        ≡ sparing_of (as_panel left right ram.now) picture.now output.old ⌝ }
+    ensures { result_of result output.new
+        ≡ sparing_of (as_panel left right ram.now) picture.now output.old }
 {
     if sparing_sizes_wrong(ram.len(), picture.len(), output.len()) {
         return Verdict::new(1, 0);

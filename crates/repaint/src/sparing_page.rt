@@ -1,7 +1,7 @@
 // The records that a sparing repaint sends to a chip's hidden pages: those for the columns that differ from the picture,
 // written to the front of a lent part of the output buffer.
 ghost use Rattle.std.specs.Prelude.{◌+◌, ◌-◌, ◌*◌, ◌<◌, ◌≤◌, ◌≡◌, length};
-ghost use Rattle.basics.specs.Verdict.{result};
+ghost use Rattle.basics.specs.Verdict.{result_of};
 ghost use Rattle.sed1520.specs.Memory.{ram_length};
 ghost use Rattle.frame.specs.Frame.{segments};
 ghost use Rattle.repaint.specs.Repaint.{writes_length, page_length, picture_length};
@@ -21,7 +21,7 @@ fn column_differs(chip: Chip, which: u8, ram: &[u8], picture: &[u8], band: u8, j
     requires picture_len { length picture.now ≡ picture_length }
     requires band_bound { band < 2 }
     requires j_lt_segments { j < segments }
-    ensures* { λ r. ⌜ r ≡ differs chip which ram.now picture.now band j ⌝ }
+    ensures { result ≡ differs chip which ram.now picture.now band j }
 {
     let held = ram[index(hidden_page(chip, band), lowest_column(chip) + (j as u8))];
     held != picture_byte(picture, which, column_segment(chip, j), band)
@@ -32,7 +32,7 @@ fn next_changed(chip: Chip, which: u8, ram: &[u8], picture: &[u8], band: u8, fro
     requires ram_len { length ram.now ≡ ram_length }
     requires picture_len { length picture.now ≡ picture_length }
     requires band_bound { band < 2 }
-    ensures* { λ r. ⌜ r ≡ next_column (differs chip which ram.now picture.now band) from (segments - from) ⌝ }
+    ensures { result ≡ next_column (differs chip which ram.now picture.now band) from (segments - from) }
 {
     let mut j = from;
     while j < Chip::SEGMENTS {
@@ -60,9 +60,9 @@ fn put_run_writes(
     requires band_bound { band < 2 }
     requires from_le_segments { from ≤ segments }
     requires from_in_bounds { 4 * (segments - from) ≤ length output.old }
-    ensures* { λ r. ⌜ result r output.new
+    ensures { result_of result output.new
         ≡ put_front (run_writes chip which picture.now band (differs chip which ram.now picture.now band) from)
-        output.old ⌝ }
+        output.old }
 {
     let mut bytes = 0;
     let mut column = from;
@@ -93,10 +93,10 @@ fn put_columns(
     requires band_bound { band < 2 }
     requires first_value { first ≡ next_column (differs chip which ram.now picture.now band) 0 segments }
     requires writes_length_in_bounds { 4 + writes_length ≤ length output.old }
-    ensures* { λ r. ⌜ result r output.new
+    ensures { result_of result output.new
         ≡ put_front
         (chosen_columns chip which picture.now band (differs chip which ram.now picture.now band) 0 segments)
-        output.old ⌝ }
+        output.old }
 {
     let mut at = 0;
     let mut run = first;
@@ -123,9 +123,9 @@ fn put_changed_page(
     requires picture_len { length picture.now ≡ picture_length }
     requires band_bound { band < 2 }
     requires page_length_in_bounds { page_length ≤ length output.old }
-    ensures* { λ r. ⌜ result r output.new
+    ensures { result_of result output.new
         ≡ put_front (chosen_page chip which picture.now band (differs chip which ram.now picture.now band))
-        output.old ⌝ }
+        output.old }
 {
     let first = next_changed(chip, which, ram, picture, band, 0);
     if Chip::SEGMENTS <= first {
@@ -155,8 +155,8 @@ pub(crate) fn put_changed_pages(
     requires ram_len { length ram.now ≡ ram_length }
     requires picture_len { length picture.now ≡ picture_length }
     requires page_length_in_bounds { 2 * page_length ≤ length output.old }
-    ensures* { λ r. ⌜ result r output.new
-        ≡ put_front (chip_records chip which ram.now picture.now) output.old ⌝ }
+    ensures { result_of result output.new
+        ≡ put_front (chip_records chip which ram.now picture.now) output.old }
 {
     let first = put_changed_page(chip, which, ram, picture, 0, output);
     first + put_changed_page(chip, which, ram, picture, 1, &mut output[first..])

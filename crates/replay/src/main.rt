@@ -1,4 +1,7 @@
 // Replays the raw bytes of standard input on fresh chips with RAM all 0, and prints each answer and the end line.
+
+#![tactic(auto)]
+
 mod text;
 
 ghost use Rattle.std.specs.Prelude.{◌≤◌, ◌≡◌, length, replicate};

@@ -6,7 +6,7 @@ use Rattle.std.proofs.Math.Option.{Option, none, some}
 use Rattle.basics.specs.Choice.{if}
 use Rattle.basics.specs.Lists.{leading}
 use Rattle.basics.specs.Run.{Step, Run, run_of}
-use Rattle.basics.specs.Verdict.{Result, result}
+use Rattle.basics.specs.Verdict.{Result, result_of}
 use Rattle.sed1520.specs.ChipBytes.{chip_length, chip_bytes, registers_in}
 use Rattle.sed1520.specs.Command.{decode_of}
 use Rattle.sed1520.specs.Cycle.{address_line, write_line, execute, command_write, step_of, Reply, as_step}
@@ -100,7 +100,7 @@ ran_over run rs answers =
 
 -- the tally of one accepted record and the answer buffer after it
 abbrev pub answered_alone : Record → Reply → List ℕ → Result Tally (List ℕ)
-answered_alone r a answers = result (tallied 0 (a ∷ []) (r ∷ [])) (answers_left (a ∷ []) answers)
+answered_alone r a answers = result_of (tallied 0 (a ∷ []) (r ∷ [])) (answers_left (a ∷ []) answers)
 
 -- the first n of some records given to a step over bytes of chips and their RAM
 abbrev pub run_first : (BytesAndRam → Record → Step BytesAndRam Reply) → ℕ → List Record → List ℕ → List ℕ → List ℕ → InPlace Tally

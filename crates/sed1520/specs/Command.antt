@@ -14,16 +14,16 @@ use Rattle.sed1520.specs.declared.commands.Found.TheVariants.{Of, Nothing}
 
 -- table 4.1: the byte of an opcode with argument 0
 abbrev pub first : Opcode → ℕ
-first Display = 0x_ae
-first StartLine = 0x_c0
-first Page = 0x_b8
+first Display = 0xAE
+first StartLine = 0xC0
+first Page = 0xB8
 first Column = 0x00
-first Adc = 0x_a0
-first Static = 0x_a4
-first Duty = 0x_a8
-first Modify = 0x_e0
-first End = 0x_ee
-first Reset = 0x_e2
+first Adc = 0xA0
+first Static = 0xA4
+first Duty = 0xA8
+first Modify = 0xE0
+first End = 0xEE
+first Reset = 0xE2
 
 -- how many arguments an opcode is coded with, from 0 up; of a column set's, a chip accepts those below `column_stop`
 abbrev pub count : Opcode → ℕ

@@ -62,11 +62,11 @@ read = sent 5 0 0
 
 -- the sequence of P1
 abbrev pub at_last_column : List Record
-at_last_column = command 79 ∷ write 0x_a5 ∷ []
+at_last_column = command 79 ∷ write 0xA5 ∷ []
 
 -- the sequence of P6
 abbrev pub cursor : List Record
-cursor = command 10 ∷ command 0x_e0 ∷ read ∷ read ∷ write 0x_ff ∷ []
+cursor = command 10 ∷ command 0xE0 ∷ read ∷ read ∷ write 0xFF ∷ []
 
 -- the answers to P6's sequence: the first read has a stale latch, the second a fresh one
 abbrev pub cursor_answers : List Reply
@@ -74,32 +74,32 @@ cursor_answers = wrote ∷ wrote ∷ reply 2 0 ∷ reply 1 0 ∷ write_reply 10 
 
 -- the examples P1 to P4, P6, P7, P10 and P11
 pub record ChipExamples : Type 0 where
-  pub p1 : run_from_fresh at_last_column ≡ as_run 0 (wrote ∷ write_reply 79 ∷ []) (chip_over (with_column 80 fresh) (byte_set blank 0 79 0x_a5))
+  pub p1 : run_from_fresh at_last_column ≡ as_run 0 (wrote ∷ write_reply 79 ∷ []) (chip_over (with_column 80 fresh) (byte_set blank 0 79 0xA5))
   pub p2 : run_from_fresh (at_last_column ++ (write 0x3_c ∷ [])) ≡ as_run 0 (wrote ∷ write_reply 79 ∷ wrote ∷ []) (run_from_fresh at_last_column).state
   pub p3 : (cycled start (command 100) ≡ refused start 14) × (decode_of 100 ≡ coded (record { opcode = Column; argument = 100 }))
-  pub p3-ends : run_from_fresh (command 100 ∷ write 0x_a5 ∷ []) ≡ as_run 14 [] start
+  pub p3-ends : run_from_fresh (command 100 ∷ write 0xA5 ∷ []) ≡ as_run 14 [] start
   pub p4-fresh : run_from_fresh (status ∷ []) ≡ as_run 0 (reply 3 0x60 ∷ []) start
-  pub p4-on-reverse : run_from_fresh (command 0x_af ∷ command 0x_a1 ∷ status ∷ [])
+  pub p4-on-reverse : run_from_fresh (command 0xAF ∷ command 0xA1 ∷ status ∷ [])
       ≡ as_run 0 (wrote ∷ wrote ∷ reply 3 0x00 ∷ []) (chip_over (with_reverse true (with_display true fresh)) blank)
-  pub p6-counted : run_from_fresh cursor ≡ as_run 0 cursor_answers (chip_over (with_modify true 10 (with_column 11 fresh)) (byte_set blank 0 10 0x_ff))
-  pub p6-returned : run_from_fresh (cursor ++ (command 0x_ee ∷ []))
-      ≡ as_run 0 (cursor_answers ++ (wrote ∷ [])) (chip_over (with_column 10 fresh) (byte_set blank 0 10 0x_ff))
-  pub p7-on : (run_from_fresh (command 0x_e0 ∷ [])).number ≡ 0
-  pub p7 : let s = (run_from_fresh (command 0x_e0 ∷ [])).state in cycled s (command 0x05) ≡ refused s 8
+  pub p6-counted : run_from_fresh cursor ≡ as_run 0 cursor_answers (chip_over (with_modify true 10 (with_column 11 fresh)) (byte_set blank 0 10 0xFF))
+  pub p6-returned : run_from_fresh (cursor ++ (command 0xEE ∷ []))
+      ≡ as_run 0 (cursor_answers ++ (wrote ∷ [])) (chip_over (with_column 10 fresh) (byte_set blank 0 10 0xFF))
+  pub p7-on : (run_from_fresh (command 0xE0 ∷ [])).number ≡ 0
+  pub p7 : let s = (run_from_fresh (command 0xE0 ∷ [])).state in cycled s (command 0x05) ≡ refused s 8
   pub p10-80 : (cycled start (command 0x80) ≡ refused start 7) × (decode_of 0x80 ≡ not_coded 0x80)
-  pub p10-ac : (cycled start (command 0x_ac) ≡ refused start 7) × (decode_of 0x_ac ≡ not_coded 0x_ac)
-  pub p10-bc : (cycled start (command 0x_bc) ≡ refused start 7) × (decode_of 0x_bc ≡ not_coded 0x_bc)
-  pub p10-e3 : (cycled start (command 0x_e3) ≡ refused start 7) × (decode_of 0x_e3 ≡ not_coded 0x_e3)
-  pub p10-df : (run_from_fresh (command 0x_df ∷ []) ≡ as_run 0 (wrote ∷ []) (chip_over (with_start_line 31 fresh) blank))
-      × (decode_of 0x_df ≡ coded (record { opcode = StartLine; argument = 31 }))
+  pub p10-ac : (cycled start (command 0xAC) ≡ refused start 7) × (decode_of 0xAC ≡ not_coded 0xAC)
+  pub p10-bc : (cycled start (command 0xBC) ≡ refused start 7) × (decode_of 0xBC ≡ not_coded 0xBC)
+  pub p10-e3 : (cycled start (command 0xE3) ≡ refused start 7) × (decode_of 0xE3 ≡ not_coded 0xE3)
+  pub p10-df : (run_from_fresh (command 0xDF ∷ []) ≡ as_run 0 (wrote ∷ []) (chip_over (with_start_line 31 fresh) blank))
+      × (decode_of 0xDF ≡ coded (record { opcode = StartLine; argument = 31 }))
   pub p11-0 : (b : ℕ) → cycled start (sent 0 0 b) ≡ refused start 6
   pub p11-6 : (b : ℕ) → cycled start (sent 6 0 b) ≡ refused start 6
   pub p11-8 : (b : ℕ) → cycled start (sent 8 2 b) ≡ refused start 4
 
 -- the chips that the frame's examples begin at
 pub record CommandedChips : Type 0 where
-  pub static-display-off : commanded 0x_ae 0x_a5 ≡ with_static true fresh
-  pub static-display-on : commanded 0x_af 0x_a5 ≡ with_static true (with_display true fresh)
-  pub line-31 : commanded 0x_af 0x_df ≡ with_start_line 31 (with_display true fresh)
-  pub forward : commanded 0x_af 0x_a0 ≡ with_display true fresh
-  pub reverse : commanded 0x_af 0x_a1 ≡ with_reverse true (with_display true fresh)
+  pub static-display-off : commanded 0xAE 0xA5 ≡ with_static true fresh
+  pub static-display-on : commanded 0xAF 0xA5 ≡ with_static true (with_display true fresh)
+  pub line-31 : commanded 0xAF 0xDF ≡ with_start_line 31 (with_display true fresh)
+  pub forward : commanded 0xAF 0xA0 ≡ with_display true fresh
+  pub reverse : commanded 0xAF 0xA1 ≡ with_reverse true (with_display true fresh)

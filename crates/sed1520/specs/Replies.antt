@@ -3,7 +3,7 @@ use Rattle.std.specs.Prelude.{ℕ, ◌+◌, ◌*◌, Bool, false, not, ◌&&◌,
 use mathlib.Core.List.{List, [], ◌∷◌, ◌++◌, flat_map}
 use Rattle.std.proofs.Math.Option.{Option, none, some}
 use Rattle.basics.specs.Choice.{if}
-use Rattle.basics.specs.Verdict.{Result, result}
+use Rattle.basics.specs.Verdict.{Result, result_of}
 use Rattle.sed1520.specs.Cycle.{Reply}
 use Rattle.sed1520.specs.declared.bus.Record.{Record}
 use Rattle.sed1520.specs.declared.tally.Ran.{Ran}
@@ -86,4 +86,4 @@ InPlace A = Result A (Lent (List ℕ))
 
 -- an answer with what such a call leaves
 abbrev pub in_place : {A : Type 0} → A → List ℕ → List ℕ → List ℕ → InPlace A
-in_place a bytes ram answers = result a (lent bytes ram answers)
+in_place a bytes ram answers = result_of a (lent bytes ram answers)

@@ -9,7 +9,7 @@ use crate::registers::{Chip, ReadLatch};
 
 // Which of the 640 RAM bytes of both chips a cycle stored to, if any, by its index: 320 x chip + 80 x page + column, the chip
 // by the record's number. A store of the byte that stands there already is a store.
-#[derive(Drop)]
+#[derive(Clone, Copy)]
 pub enum Stored {
     At(usize),
     Nothing,
@@ -17,7 +17,7 @@ pub enum Stored {
 
 // What a cycle gives back beside the RAM: the number and its place, the answer's kind and byte, the RAM byte stored to, and
 // the chip's successor.
-#[derive(Drop)]
+#[derive(Clone, Copy)]
 pub struct Answer {
     pub number: u8,
     pub place: u8,

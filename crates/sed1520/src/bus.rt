@@ -10,7 +10,7 @@ pub const RECORD_BYTES: usize = 4;
 
 // What one cycle carried: the control lines (bit 0 A0, bit 1 RD, bit 2 WR, both active low), the chip that is
 // addressed, the byte on the bus, and a spare byte.
-#[derive(Drop)]
+#[derive(Clone, Copy)]
 pub struct Record {
     pub lines: u8,
     pub chip: u8,

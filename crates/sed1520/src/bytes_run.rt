@@ -2,7 +2,7 @@
 // so are data reads: each keeps what changes, the column and of reads the latch, in locals and stores it once, at the end.
 ghost use Rattle.std.specs.Prelude.{◌+◌, ◌-◌, ◌*◌, ◌/◌, ◌≤◌, ◌<◌, ◌≡◌, true, ◌&&◌, ltb, length, get_or, drop};
 ghost use Rattle.basics.specs.Choice.{if};
-ghost use Rattle.basics.specs.Verdict.{result};
+ghost use Rattle.basics.specs.Verdict.{result_of};
 ghost use Rattle.sed1520.specs.Chip.{column_stop};
 ghost use Rattle.sed1520.specs.ChipBytes.{chip_length};
 ghost use Rattle.sed1520.specs.Memory.{ram_length};
@@ -21,7 +21,7 @@ use basics::word_of;
 // Whether a trace has an n-th record and it has these lines, names this chip and has a fourth byte of 0. Its four bytes
 // are compared as one number with those that it would have.
 fn carried(trace: &[u8], n: usize, lines: u8, chip: u8) -> bool
-    ensures* { λ r. ⌜ r ≡ (ltb n (length trace.now / 4) && carries lines chip (front (drop (4 * n) trace.now))) ⌝ }
+    ensures { result ≡ (ltb n (length trace.now / 4) && carries lines chip (front (drop (4 * n) trace.now))) }
 {
     if trace.len() / RECORD_BYTES <= n {
         return false;
@@ -39,9 +39,9 @@ fn write_run(chip: u8, bytes: &mut [u8], ram: &mut [u8], trace: &[u8], answers: 
     requires trace_in_bounds { 2 * (length trace.now / 4) ≤ length answers.old }
     requires in_bounds { 4 ≤ length trace.now }
     requires trace_value { carries 3 chip (front trace.now) ≡ true }
-    ensures* ran { λ r. ⌜ in_place r.tally bytes.new ram.new answers.new
-        ≡ run_leading 3 chip bytes.old ram.old trace.now answers.old ⌝ }
-    ensures* moved { λ r. ⌜ r.moved ≡ get_or bytes.new 7 0 - get_or bytes.old 7 0 ⌝ }
+    ensures ran { in_place result.tally bytes.new ram.new answers.new
+        ≡ run_leading 3 chip bytes.old ram.old trace.now answers.old }
+    ensures moved { result.moved ≡ get_or bytes.new 7 0 - get_or bytes.old 7 0 }
 {
     let page = bytes[5];
     let mut column = bytes[7];
@@ -72,8 +72,8 @@ fn read_run(chip: u8, bytes: &mut [u8], ram: &[u8], trace: &[u8], answers: &mut 
     requires chip_bound { chip < 2 }
     requires bytes_len { length bytes.old ≡ chip_length }
     requires trace_in_bounds { 2 * (length trace.now / 4) ≤ length answers.old }
-    ensures* { λ r. ⌜ in_place r bytes.new ram.now answers.new
-        ≡ run_leading 5 chip bytes.old ram.now trace.now answers.old ⌝ }
+    ensures { in_place result bytes.new ram.now answers.new
+        ≡ run_leading 5 chip bytes.old ram.now trace.now answers.old }
 {
     let page = bytes[5];
     let modify = bytes[4] == 1;
@@ -112,7 +112,7 @@ fn read_run(chip: u8, bytes: &mut [u8], ram: &[u8], trace: &[u8], answers: &mut 
 // The column after a data read below the stop: read-modify-write keeps it.
 fn counted_on(column: u8, modify: bool) -> u8
     requires { column < column_stop }
-    ensures* { λ r. ⌜ r ≡ if modify column (column + 1) ⌝ }
+    ensures { result ≡ if modify column (column + 1) }
 {
     if modify { column } else { column + 1 }
 }
@@ -120,7 +120,7 @@ fn counted_on(column: u8, modify: bool) -> u8
 // One record's answer at the front of the answers, and its tally.
 fn put_answer(bus: Record, kind: u8, byte: u8, answers: &mut [u8]) -> Tally
     requires { 2 ≤ length answers.old }
-    ensures* { λ r. ⌜ result r answers.new ≡ answered_alone bus (reply kind byte) answers.old ⌝ }
+    ensures { result_of result answers.new ≡ answered_alone bus (reply kind byte) answers.old }
 {
     answers[0] = kind;
     answers[1] = byte;
@@ -139,9 +139,9 @@ fn run_first(bytes: &mut [u8], ram: &mut [u8], trace: &[u8], answers: &mut [u8])
     requires ram_len { length ram.old ≡ ram_length }
     requires trace_in_bounds { 2 * (length trace.now / 4) ≤ length answers.old }
     requires in_bounds { 4 ≤ length trace.now }
-    ensures* ran { λ r. ⌜ in_place r.tally bytes.new ram.new answers.new
-        ≡ run_bytes bytes.old ram.old trace.now answers.old ⌝ }
-    ensures* moved { λ r. ⌜ r.moved ≡ columns_written trace.now 0 bytes.old bytes.new ⌝ }
+    ensures ran { in_place result.tally bytes.new ram.new answers.new
+        ≡ run_bytes bytes.old ram.old trace.now answers.old }
+    ensures moved { result.moved ≡ columns_written trace.now 0 bytes.old bytes.new }
 {
     let bus = Record {
         lines: trace[0],
@@ -181,9 +181,9 @@ pub fn run_of_tested_bytes(
     trace: &[u8],
     answers: &mut [u8],
 ) -> Ran
-    ensures* ran { λ r. ⌜ in_place r.tally bytes.new ram.new answers.new
-        ≡ run_bytes bytes.old ram.old trace.now answers.old ⌝ }
-    ensures* moved { λ r. ⌜ r.moved ≡ columns_written trace.now 0 bytes.old bytes.new ⌝ }
+    ensures ran { in_place result.tally bytes.new ram.new answers.new
+        ≡ run_bytes bytes.old ram.old trace.now answers.old }
+    ensures moved { result.moved ≡ columns_written trace.now 0 bytes.old bytes.new }
 {
     if bytes.len() != CHIP_BYTES {
         return Ran::unmoved(Tally::nothing_run(1, 0));

@@ -4,7 +4,7 @@ ghost use Rattle.std.specs.Prelude.{◌≡◌};
 ghost use Rattle.sed1520.specs.Command.{first, count, opcodes, among, found_opcode, decode_of, encode_of, coded_command, coded_byte};
 
 // The ten opcodes (document 01: kinds of command), in the order of the sheet's table 4.1.
-#[derive(Drop)]
+#[derive(Clone, Copy)]
 pub enum Opcode {
     Display,
     StartLine,
@@ -19,28 +19,28 @@ pub enum Opcode {
 }
 
 // An opcode with its argument.
-#[derive(Drop)]
+#[derive(Clone, Copy)]
 pub struct Command {
     pub opcode: Opcode,
     pub argument: u8,
 }
 
 // A byte decoded: the command, or the byte that is none.
-#[derive(Drop)]
+#[derive(Clone, Copy)]
 pub enum Decoded {
     Known(Command),
     Unknown(u8),
 }
 
 // A command made a byte: the byte, or the argument that its opcode does not have.
-#[derive(Drop)]
+#[derive(Clone, Copy)]
 pub enum Encoded {
     Byte(u8),
     OutOfRange(u8),
 }
 
 // The opcode whose range a byte is in, if there is one.
-#[derive(Drop)]
+#[derive(Clone, Copy)]
 enum Found {
     Of(Opcode),
     Nothing,
@@ -52,16 +52,16 @@ impl Opcode {
         ensures { result ≡ first self }
     {
         match self {
-            Opcode::Display => 0x_ae,
-            Opcode::StartLine => 0x_c0,
-            Opcode::Page => 0x_b8,
+            Opcode::Display => 0xAE,
+            Opcode::StartLine => 0xC0,
+            Opcode::Page => 0xB8,
             Opcode::Column => 0x00,
-            Opcode::Adc => 0x_a0,
-            Opcode::Static => 0x_a4,
-            Opcode::Duty => 0x_a8,
-            Opcode::Modify => 0x_e0,
-            Opcode::End => 0x_ee,
-            Opcode::Reset => 0x_e2,
+            Opcode::Adc => 0xA0,
+            Opcode::Static => 0xA4,
+            Opcode::Duty => 0xA8,
+            Opcode::Modify => 0xE0,
+            Opcode::End => 0xEE,
+            Opcode::Reset => 0xE2,
         }
     }
 

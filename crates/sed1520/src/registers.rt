@@ -4,7 +4,7 @@ ghost use Rattle.sed1520.specs.Chip.{in_range, fresh, latched, stale, read_kind,
 
 // The byte that the next data read answers (document 01: the holder): fresh where a data read loaded it and nothing
 // made it stale since.
-#[derive(Drop)]
+#[derive(Clone, Copy)]
 pub enum ReadLatch {
     Stale(u8),
     Fresh(u8),
@@ -40,7 +40,7 @@ impl ReadLatch {
 }
 
 // All of a chip but its display RAM, which is lent to each cycle.
-#[derive(Drop)]
+#[derive(Clone, Copy)]
 pub struct Chip {
     pub display_on: bool,
     pub static_on: bool,

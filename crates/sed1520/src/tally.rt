@@ -8,7 +8,7 @@ pub const ANSWER_BYTES: usize = 2;
 
 // What a run of records gives back beside what it was lent: the number and its place, how many reads were compared with
 // the trace and how many of these differ.
-#[derive(Drop)]
+#[derive(Clone, Copy)]
 pub struct Tally {
     pub number: u8,
     pub place: u64,
@@ -32,7 +32,7 @@ impl Tally {
 
 // What records that run together give back: their tally, and by how many columns data writes moved the column on, which is
 // how many bytes these stored to.
-#[derive(Drop)]
+#[derive(Clone, Copy)]
 pub struct Ran {
     pub tally: Tally,
     pub moved: u8,

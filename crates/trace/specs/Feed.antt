@@ -3,7 +3,7 @@
 use Rattle.std.specs.Prelude.{ℕ, ◌+◌, ◌*◌, ◌/◌, Bool, ◌||◌, List, [], ◌∷◌, ◌++◌, ltb, eqb, length, get_or, take, drop}
 use Rattle.basics.specs.Choice.{if}
 use Rattle.basics.specs.Table.{Cause, cause, left_then_right, unless_refused, verdict_by}
-use Rattle.basics.specs.Verdict.{verdict, Result, result}
+use Rattle.basics.specs.Verdict.{verdict, Result, result_of}
 use Rattle.basics.specs.declared.verdict.Verdict.{Verdict}
 use Rattle.sed1520.specs.declared.registers.Chip.{Chip}
 use Rattle.panel.specs.Panel.{as_panel}
@@ -128,7 +128,7 @@ PartOutcome = Result Tally (Lent Feed)
 
 -- what a part by value gives back, with the image and the answers afterwards
 abbrev pub part_outcome : Fed → List ℕ → List ℕ → PartOutcome
-part_outcome fed ram answers = result fed.tally (lent fed.feed ram answers)
+part_outcome fed ram answers = result_of fed.tally (lent fed.feed ram answers)
 
 -- what a part gives back and the feed that it leaves
 abbrev pub fed_by : PartOutcome → Fed

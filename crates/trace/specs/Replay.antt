@@ -3,7 +3,7 @@ use Rattle.std.specs.Prelude.{ℕ, ◌*◌, ◌/◌, Bool, not, ◌&&◌, List, 
 use Rattle.basics.specs.Choice.{if}
 use Rattle.basics.specs.Run.{Run}
 use Rattle.basics.specs.Table.{Cause, cause, unless_refused}
-use Rattle.basics.specs.Verdict.{verdict, Result, result}
+use Rattle.basics.specs.Verdict.{verdict, Result, result_of}
 use Rattle.basics.specs.declared.verdict.Verdict.{Verdict}
 use Rattle.sed1520.specs.Chip.{out_of_range}
 use Rattle.sed1520.specs.ChipBytes.{chip_length, bytes_pass}
@@ -30,7 +30,7 @@ ReplayOutcome = Result Tally (Lent Chips)
 -- what a replay gives back and leaves: number, place and counts, with the panel and the answer buffer afterwards
 abbrev pub ended_at : ℕ → ℕ → ℕ → ℕ → Panel → List ℕ → ReplayOutcome
 ended_at n at compared differing p answers =
-    result (tally n at compared differing) (lent (as_chips p.left p.right) p.ram answers)
+    result_of (tally n at compared differing) (lent (as_chips p.left p.right) p.ram answers)
 
 -- the panel that a replay leaves
 abbrev pub panel_after : ReplayOutcome → Panel
@@ -43,7 +43,7 @@ refused_at n at p answers = ended_at n at 0 0 p answers
 -- how a replay ends by the run of its records: done, or refused at a record, with the replies before it; the answer bytes past them stay
 unfoldable pub ended : Run Panel Reply → List Record → List ℕ → ReplayOutcome
 ended r rs answers =
-    result (tallied r.number r.answers rs)
+    result_of (tallied r.number r.answers rs)
     (lent (as_chips r.state.left r.state.right) r.state.ram (answers_left r.answers answers))
 
 -- how the run of the whole records in some bytes ends on a panel

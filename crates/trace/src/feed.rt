@@ -26,7 +26,7 @@ use sed1520::tally::{ANSWER_BYTES, Tally};
 pub const MAX_RECORDS: u64 = 4294967295;
 
 // Both chips and what was taken so far.
-#[derive(Drop)]
+#[derive(Clone, Copy)]
 pub struct Feed {
     pub left: Chip,
     pub right: Chip,
@@ -34,14 +34,14 @@ pub struct Feed {
 }
 
 // What each call gives back: number, place and the counts so far; and the next feed.
-#[derive(Drop)]
+#[derive(Clone, Copy)]
 pub struct Fed {
     pub tally: Tally,
     pub feed: Feed,
 }
 
 // What a part given over chip bytes, which are rewritten, gives back: number, place and counts; and the next progress.
-#[derive(Drop)]
+#[derive(Clone, Copy)]
 pub struct FedInPlace {
     pub tally: Tally,
     pub progress: Progress,

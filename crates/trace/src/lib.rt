@@ -1,5 +1,8 @@
 // The replay of a recorded bus trace on two chips, whole or in parts: what they answer to each record and what they hold
 // afterwards.
+
+#![tactic(auto)]
+
 pub mod feed;
 pub mod held_feed;
 pub mod progress;
@@ -23,7 +26,7 @@ use sed1520::tally::{ANSWER_BYTES, Tally};
 
 // What a replay gives back beside what it was lent: the number and its place, how many reads were compared with the
 // trace and how many of these differ, and both chips.
-#[derive(Drop)]
+#[derive(Clone, Copy)]
 pub struct Replayed {
     pub number: u8,
     pub place: u64,

@@ -7,7 +7,7 @@ use sed1520::bus::RECORD_BYTES;
 use sed1520::tally::Tally;
 
 // Whether a feed takes parts, or is stopped with the number and the place that it repeats.
-#[derive(Drop)]
+#[derive(Clone, Copy)]
 pub enum Ending {
     Open,
     Stopped(u8, u32),
@@ -15,7 +15,7 @@ pub enum Ending {
 
 // What a feed holds beside its chips: how many bytes are kept over and which, the records taken since the opening, how
 // many reads were compared, how many of these differ, and the ending.
-#[derive(Drop)]
+#[derive(Clone, Copy)]
 pub struct Progress {
     pub kept: u8,
     pub first: u8,

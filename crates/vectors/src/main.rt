@@ -1,5 +1,8 @@
 // Runs the sheet's worked sequences, those of requests C-12 and C-15, refused records and document 01's listing through the
 // cycle, and checks every number, kind and byte that it answers.
+
+#![tactic(auto)]
+
 ghost use Rattle.std.specs.Prelude.{◌≡◌, true};
 ghost use Rattle.vectors.specs.Cases.{case_agrees, agrees_of};
 
@@ -35,23 +38,23 @@ const NO_CHIP: u8 = 2;
 // Command bytes; a page, a column and a start line are added to theirs.
 const COLUMN: u8 = 0x00;
 
-const ADC_FORWARD: u8 = 0x_a0;
+const ADC_FORWARD: u8 = 0xA0;
 
-const ADC_REVERSE: u8 = 0x_a1;
+const ADC_REVERSE: u8 = 0xA1;
 
-const DISPLAY_OFF: u8 = 0x_ae;
+const DISPLAY_OFF: u8 = 0xAE;
 
-const DISPLAY_ON: u8 = 0x_af;
+const DISPLAY_ON: u8 = 0xAF;
 
-const PAGE: u8 = 0x_b8;
+const PAGE: u8 = 0xB8;
 
-const START_LINE: u8 = 0x_c0;
+const START_LINE: u8 = 0xC0;
 
-const MODIFY_ON: u8 = 0x_e0;
+const MODIFY_ON: u8 = 0xE0;
 
-const RESET: u8 = 0x_e2;
+const RESET: u8 = 0xE2;
 
-const MODIFY_OFF: u8 = 0x_ee;
+const MODIFY_OFF: u8 = 0xEE;
 
 // The first column that RAM does not have.
 const STOP: u8 = Chip::COLUMN_STOP;
@@ -92,12 +95,12 @@ const CURSOR_BLINK: [[u8; CASE]; 15] = [
     [COMMAND, LEFT, MODIFY_ON, 0, DONE, NONE, 0],
     [READ, LEFT, 0, 0, DONE, STALE, 0x00],
     [READ, LEFT, 0, 0, DONE, FRESH, 0x3_c],
-    [WRITE, LEFT, 0x_c3, 0, DONE, NONE, 0],
+    [WRITE, LEFT, 0xC3, 0, DONE, NONE, 0],
     [READ, LEFT, 0, 0, DONE, STALE, 0x3_c],
     [READ, LEFT, 0, 0, DONE, FRESH, 0x81],
     [COMMAND, LEFT, MODIFY_OFF, 0, DONE, NONE, 0],
     [READ, LEFT, 0, 0, DONE, STALE, 0x81],
-    [READ, LEFT, 0, 0, DONE, FRESH, 0x_c3],
+    [READ, LEFT, 0, 0, DONE, FRESH, 0xC3],
     [READ, LEFT, 0, 0, DONE, FRESH, 0x81],
 ];
 
@@ -125,7 +128,7 @@ const CURSOR_READ_BACK: [[u8; CASE]; 30] = [
     [COMMAND, LEFT, MODIFY_ON, 0, DONE, NONE, 0],
     [READ, LEFT, 0, 0, DONE, STALE, 0x7_f],
     [READ, LEFT, 0, 0, DONE, FRESH, 0x41],
-    [WRITE, LEFT, 0x_be, 0, DONE, NONE, 0],
+    [WRITE, LEFT, 0xBE, 0, DONE, NONE, 0],
     [READ, LEFT, 0, 0, DONE, STALE, 0x41],
     [READ, LEFT, 0, 0, DONE, FRESH, 0x7_f],
     [COMMAND, LEFT, MODIFY_OFF, 0, DONE, NONE, 0],
@@ -157,16 +160,16 @@ const EMPTY_READ: [[u8; CASE]; 11] = [
 const COUNTING_STOP: [[u8; CASE]; 17] = [
     [COMMAND, LEFT, PAGE, 0, DONE, NONE, 0],
     [COMMAND, LEFT, COLUMN + 78, 0, DONE, NONE, 0],
-    [WRITE, LEFT, 0x_a1, 0, DONE, NONE, 0],
-    [WRITE, LEFT, 0x_a2, 0, DONE, NONE, 0],
-    [WRITE, LEFT, 0x_a3, 0, DONE, NONE, 0],
+    [WRITE, LEFT, 0xA1, 0, DONE, NONE, 0],
+    [WRITE, LEFT, 0xA2, 0, DONE, NONE, 0],
+    [WRITE, LEFT, 0xA3, 0, DONE, NONE, 0],
     [COMMAND, LEFT, COLUMN + 78, 0, DONE, NONE, 0],
     [READ, LEFT, 0, 0, DONE, STALE, 0x00],
-    [READ, LEFT, 0, 0, DONE, FRESH, 0x_a1],
-    [READ, LEFT, 0, 0, DONE, FRESH, 0x_a2],
-    [READ, LEFT, 0, 0, DONE, STALE, 0x_a2],
+    [READ, LEFT, 0, 0, DONE, FRESH, 0xA1],
+    [READ, LEFT, 0, 0, DONE, FRESH, 0xA2],
+    [READ, LEFT, 0, 0, DONE, STALE, 0xA2],
     [COMMAND, LEFT, COLUMN, 0, DONE, NONE, 0],
-    [READ, LEFT, 0, 0, DONE, STALE, 0x_a2],
+    [READ, LEFT, 0, 0, DONE, STALE, 0xA2],
     [READ, LEFT, 0, 0, DONE, FRESH, 0x00],
     [COMMAND, LEFT, PAGE + 1, 0, DONE, NONE, 0],
     [COMMAND, LEFT, COLUMN, 0, DONE, NONE, 0],
@@ -252,9 +255,9 @@ const REFUSALS: [[u8; CASE]; 20] = [
     [COMMAND, LEFT, MODIFY_ON, 0, DONE, NONE, 0],
     [COMMAND, LEFT, COLUMN + 5, 0, COLUMN_IN_MODIFY, NONE, 0],
     [COMMAND, LEFT, 0x80, 0, NO_COMMAND, NONE, 0],
-    [COMMAND, LEFT, 0x_ac, 0, NO_COMMAND, NONE, 0],
-    [COMMAND, LEFT, 0x_bc, 0, NO_COMMAND, NONE, 0],
-    [COMMAND, LEFT, 0x_e3, 0, NO_COMMAND, NONE, 0],
+    [COMMAND, LEFT, 0xAC, 0, NO_COMMAND, NONE, 0],
+    [COMMAND, LEFT, 0xBC, 0, NO_COMMAND, NONE, 0],
+    [COMMAND, LEFT, 0xE3, 0, NO_COMMAND, NONE, 0],
     [STROBES, LEFT, 0, 0, EQUAL_STROBES, NONE, 0],
     [NO_STROBE, LEFT, 0, 0, EQUAL_STROBES, NONE, 0],
     [WRITE, NO_CHIP, 0x09, 0, NO_SUCH_CHIP, NONE, 0],
@@ -264,7 +267,7 @@ const REFUSALS: [[u8; CASE]; 20] = [
     [COMMAND, LEFT, MODIFY_OFF, 0, DONE, NONE, 0],
     [READ, LEFT, 0, 0, DONE, STALE, 0x00],
     [READ, LEFT, 0, 0, DONE, FRESH, 0x99],
-    [COMMAND, LEFT, 0x_bc, 0, NO_COMMAND, NONE, 0],
+    [COMMAND, LEFT, 0xBC, 0, NO_COMMAND, NONE, 0],
     [SPARE + WRITE, LEFT, 0x55, 0, SPARE_BITS, NONE, 0],
     [WRITE, LEFT, 0x55, 1, SPARE_BITS, NONE, 0],
     [READ, LEFT, 0, 0, DONE, FRESH, 0x00],
@@ -274,13 +277,13 @@ const REFUSALS: [[u8; CASE]; 20] = [
 const LISTING: [[u8; CASE]; 9] = [
     [COMMAND, LEFT, PAGE + 1, 0, DONE, NONE, 0],
     [COMMAND, LEFT, COLUMN + 79, 0, DONE, NONE, 0],
-    [WRITE, LEFT, 0x_a5, 0, DONE, NONE, 0],
+    [WRITE, LEFT, 0xA5, 0, DONE, NONE, 0],
     [WRITE, LEFT, 0x3_c, 0, DONE, NONE, 0],
     [COMMAND, LEFT, COLUMN + 79, 0, DONE, NONE, 0],
     [READ, LEFT, 0, 0, DONE, STALE, 0x00],
-    [READ, LEFT, 0x_a5, 0, DONE, FRESH, 0x_a5],
-    [READ, LEFT, 0x_a5, 0, DONE, STALE, 0x_a5],
-    [STATUS, LEFT, 0x_a0, 0, DONE, STATUS_BYTE, 0x60],
+    [READ, LEFT, 0xA5, 0, DONE, FRESH, 0xA5],
+    [READ, LEFT, 0xA5, 0, DONE, STALE, 0xA5],
+    [STATUS, LEFT, 0xA0, 0, DONE, STATUS_BYTE, 0x60],
 ];
 
 // Whether a case says what its record's cycle answered.

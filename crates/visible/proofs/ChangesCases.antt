@@ -11,7 +11,7 @@ use lib.Seq.{take_all}
 use borrow.Author.Rules.{rules}
 use borrow.Author.Tests.{eq-eqb, ne_eqb, lt-ltb, le-ltb, ltb-false, not-false}
 use Rattle.basics.specs.Table.{Cause, cause, verdict_by, NoneHolds}
-use Rattle.basics.specs.Verdict.{verdict, Result, result}
+use Rattle.basics.specs.Verdict.{verdict, Result, result_of}
 use Rattle.basics.specs.declared.verdict.Verdict.{Verdict}
 use Rattle.basics.proofs.Chosen.{chosen-few}
 use Rattle.basics.proofs.Run.{run_ends, answers-bound}
@@ -74,12 +74,12 @@ module _ (p : Panel) (trace buffer : List ℕ) where
   table = changes_table p trace (length buffer)
 
   abbrev kept : ℕ → ℕ → Result Verdict (List ℕ)
-  kept n at = result (verdict n at) buffer
+  kept n at = result_of (verdict n at) buffer
 
   abbrev given : Result Verdict (List ℕ)
-  given = let all = entries p trace in result (verdict 0 (length all)) (entries_bytes all ++ drop (8 * length all) buffer)
+  given = let all = entries p trace in result_of (verdict 0 (length all)) (entries_bytes all ++ drop (8 * length all) buffer)
 
-  pub trace-refused : (v : Verdict) → v ≡ verdict_by (early p trace) (verdict 0 0) → (v.number ≡ 0 → ⊥) → result v buffer ≡ changes_of p trace buffer
+  pub trace-refused : (v : Verdict) → v ≡ verdict_by (early p trace) (verdict 0 0) → (v.number ≡ 0 → ⊥) → result_of v buffer ≡ changes_of p trace buffer
   unfolding changes_of
   trace-refused v e h = sym (first-refuses kept given table _ _ (first-front (early p trace) late _ _ (refusing-line (early p trace) v 0 e h)))
 
@@ -115,7 +115,7 @@ module _ (p : Panel) (trace buffer : List ℕ) where
             (inr (accepted, inl (lt-ltb (length buffer) (8 * length (entries p trace)) (omega (arith, how-many)), (refl, refl))))))
 
         pub all_listed : w.entries ≤ length buffer / 8
-            → changes_of p trace buffer ≡ result (verdict 0 (length (entries_ran p trace))) (put_entries (entries_ran p trace) buffer)
+            → changes_of p trace buffer ≡ result_of (verdict 0 (length (entries_ran p trace))) (put_entries (entries_ran p trace) buffer)
         unfolding changes_of
         all_listed h =
             none-refuses kept given table

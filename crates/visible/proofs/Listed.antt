@@ -9,7 +9,7 @@ use lib.Dec.{eqb}
 use lib.ListN.{length, take}
 use lib.Seq.{take-suc}
 use borrow.Author.Tests.{not-true, not-false}
-use Rattle.basics.proofs.Bytes.{same_bytes, are-same}
+use Rattle.basics.proofs.Bytes.{same_bytes_lem, are-same}
 use Rattle.basics.proofs.Chosen.{ChosenList, chosen-list}
 use Rattle.basics.proofs.Run.{run-keeps, leads-or-stays}
 use Rattle.basics.proofs.Tests.{tested}
@@ -36,7 +36,7 @@ stepped-half p image r =
 
 module _ (p : Panel) (rs : List Record) where
   same-unseen : (k : ℕ) → changed_at p rs k ≡ false → Unseen p rs k
-  same-unseen k t = sym (same_bytes _ _ (not-false _ t))
+  same-unseen k t = sym (same_bytes_lem _ _ (not-false _ t))
 
   changed-seen : (k : ℕ) → changed_at p rs k ≡ true → Unseen p rs k → ⊥
   changed-seen k t unseen = true≢false (sym (are-same _ _ (sym unseen)) ∙ not-true _ t)

@@ -6,7 +6,7 @@ use Rattle.basics.specs.Choice.{if}
 use Rattle.basics.specs.Counts.{sum_below, count_below}
 use Rattle.basics.specs.Lists.{joined}
 use Rattle.basics.specs.Table.{Cause, cause, unless_refused}
-use Rattle.basics.specs.Verdict.{verdict, Result, result}
+use Rattle.basics.specs.Verdict.{verdict, Result, result_of}
 use Rattle.basics.specs.declared.verdict.Verdict.{Verdict}
 use Rattle.sed1520.specs.Chip.{out_of_range}
 use Rattle.sed1520.specs.Records.{whole_records}
@@ -83,5 +83,5 @@ changes_table p trace room =
 unfoldable pub changes_of : Panel → List ℕ → List ℕ → Result Verdict (List ℕ)
 changes_of p trace buffer =
     let entries = all_entries p (whole_records trace) in
-    unless_refused (changes_table p trace (length buffer)) (λ n at. result (verdict n at) buffer)
-    (result (verdict 0 (length entries)) (entries_bytes entries ++ drop (8 * length entries) buffer))
+    unless_refused (changes_table p trace (length buffer)) (λ n at. result_of (verdict n at) buffer)
+    (result_of (verdict 0 (length entries)) (entries_bytes entries ++ drop (8 * length entries) buffer))

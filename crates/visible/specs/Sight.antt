@@ -4,7 +4,7 @@ use Rattle.std.specs.Prelude.{ℕ, ◌+◌, ◌*◌, ◌/◌, ◌%◌, ◌^◌, 
 use Rattle.std.specs.Bool.{beq}
 use Rattle.basics.specs.Choice.{if}
 use Rattle.basics.specs.Counts.{count_below}
-use Rattle.basics.specs.Verdict.{Result, result}
+use Rattle.basics.specs.Verdict.{Result, result_of}
 use Rattle.sed1520.specs.Cycle.{cycle_of}
 use Rattle.sed1520.specs.Records.{whole_records}
 use Rattle.panel.specs.Panel.{Panel, as_panel, outcome_of, stepped}
@@ -26,7 +26,7 @@ HalfSight = Result Seen (List ℕ)
 
 -- what is seen of a record on one chip, with the RAM
 abbrev pub half_sight : Seen → List ℕ → HalfSight
-half_sight s ram = result s ram
+half_sight s ram = result_of s ram
 
 -- a record on one chip: number, chip and RAM as the cycle leaves them, and how many pixels of the half differ from before it
 abbrev pub half_sight_of : Record → Chip → List ℕ → HalfSight
@@ -65,7 +65,7 @@ Listing = Result ℕ (List ℕ)
 
 -- a listing of so many entries, with the buffer
 abbrev pub listing : ℕ → List ℕ → Listing
-listing count buffer = result count buffer
+listing count buffer = result_of count buffer
 
 -- an entry written behind n others where there is room for it
 abbrev pub put_entry : Entry → ℕ → List ℕ → List ℕ
@@ -87,7 +87,7 @@ pub record WalkLent : Type 0 where
 
 -- what a walk gives back, and what it leaves in the image and in the entries' buffer
 abbrev pub walk_left : Walked → List ℕ → List ℕ → Result Walked WalkLent
-walk_left w ram entries = result w (record { ram = ram; entries = entries })
+walk_left w ram entries = result_of w (record { ram = ram; entries = entries })
 
 -- the entries of the records that ran: of all records, or of those before the one that was refused
 abbrev pub entries_ran : Panel → List ℕ → List Entry
@@ -105,4 +105,4 @@ walk_of p trace buffer = walk_left (walked_of p trace) (trace_run p trace).state
 
 -- the walk over a copy of the image, which is not given back
 abbrev pub walk_over : Panel → List ℕ → List ℕ → Result Walked (List ℕ)
-walk_over p trace buffer = result (walked_of p trace) (put_entries (entries_ran p trace) buffer)
+walk_over p trace buffer = result_of (walked_of p trace) (put_entries (entries_ran p trace) buffer)

@@ -11,7 +11,7 @@ use sed1520::bus::{Record, cycle};
 use sed1520::registers::Chip;
 
 // A record's number, the chip after it, and how many pixels of the chip's half differ from before it.
-#[derive(Drop)]
+#[derive(Clone, Copy)]
 pub(crate) struct Seen {
     pub number: u8,
     pub chip: Chip,

@@ -1,10 +1,13 @@
 // What of a trace a reader can see: the records that changed what the panel shows.
+
+#![tactic(auto)]
+
 mod half;
 mod walk;
 mod watch;
 
 ghost use Rattle.std.specs.Prelude.{◌≡◌};
-ghost use Rattle.basics.specs.Verdict.{result};
+ghost use Rattle.basics.specs.Verdict.{result_of};
 ghost use Rattle.panel.specs.Panel.{as_panel};
 ghost use Rattle.visible.specs.Changes.{changes_of};
 
@@ -17,8 +20,8 @@ use sed1520::registers::Chip;
 // only read; the records run on copies, twice: the entries are counted before the first is written, so that a refusal
 // changes nothing.
 pub fn changes(left: Chip, right: Chip, ram: &[u8], trace: &[u8], entries: &mut [u8]) -> Verdict
-    ensures* { λ r. ⌜ result r entries.new
-        ≡ changes_of (as_panel left right ram.now) trace.now entries.old ⌝ }
+    ensures { result_of result entries.new
+        ≡ changes_of (as_panel left right ram.now) trace.now entries.old }
 {
     let wrong = sizes_wrong(trace.len(), ram.len(), false);
     let verdict = trace_verdict(wrong, !left.in_range(), !right.in_range(), trace.len());

@@ -2,7 +2,7 @@
 ghost use Rattle.std.specs.Prelude.{◌<◌, ◌≤◌, ◌≡◌, length};
 ghost use Rattle.panel.specs.Trace.{trace_limit};
 ghost use Rattle.basics.specs.Bytes.{pair_limit};
-ghost use Rattle.basics.specs.Verdict.{result};
+ghost use Rattle.basics.specs.Verdict.{result_of};
 ghost use Rattle.panel.specs.Panel.{as_panel, Whole};
 ghost use Rattle.visible.specs.Changes.{as_entry, entry_bytes};
 ghost use Rattle.visible.specs.Sight.{listing, one_more, walk_left, walk_of, walk_over};
@@ -16,7 +16,7 @@ use sed1520::registers::Chip;
 pub(crate) const ENTRY_BYTES: usize = 8;
 
 // 0 or the number by which a record was refused, how many records ran before it, and how many of these have an entry.
-#[derive(Drop)]
+#[derive(Clone, Copy)]
 pub(crate) struct Walked {
     pub number: u8,
     pub place: u64,
@@ -29,7 +29,7 @@ fn put_entry(bytes: &mut [u8], index: usize, left: u32, right: u32)
     requires index_lt_pair_limit { index < pair_limit }
     requires left_lt_pair_limit { left < pair_limit }
     requires right_lt_pair_limit { right < pair_limit }
-    ensures* { λ _. ⌜ bytes.new ≡ entry_bytes (as_entry index left right) ⌝ }
+    ensures { bytes.new ≡ entry_bytes (as_entry index left right) }
 {
     bytes[0] = (index % 0x100) as u8;
     bytes[1] = (index / 0x100 % 0x100) as u8;
@@ -48,7 +48,7 @@ fn list_entry(entries: &mut [u8], listed: usize, index: usize, left: u32, right:
     requires index_lt_pair_limit { index < pair_limit }
     requires left_lt_pair_limit { left < pair_limit }
     requires right_lt_pair_limit { right < pair_limit }
-    ensures* { λ r. ⌜ listing r entries.new ≡ one_more (as_entry index left right) (listing listed entries.old) ⌝ }
+    ensures { listing result entries.new ≡ one_more (as_entry index left right) (listing listed entries.old) }
 {
     if left + right == 0 {
         return listed;
@@ -66,8 +66,8 @@ fn list_entry(entries: &mut [u8], listed: usize, index: usize, left: u32, right:
 fn walk(left: Chip, right: Chip, ram: &mut [u8], trace: &[u8], entries: &mut [u8]) -> Walked
     requires whole { Whole (as_panel left right ram.old) }
     requires trace_len_bound { length trace.now ≤ trace_limit }
-    ensures* { λ r. ⌜ walk_left r ram.new entries.new
-        ≡ walk_of (as_panel left right ram.old) trace.now entries.old ⌝ }
+    ensures { walk_left result ram.new entries.new
+        ≡ walk_of (as_panel left right ram.old) trace.now entries.old }
 {
     let count = trace.len() / RECORD_BYTES;
     let mut now_left = left;
@@ -112,8 +112,8 @@ pub(crate) fn walk_over(
 ) -> Walked
     requires whole { Whole (as_panel left right ram.now) }
     requires trace_len_bound { length trace.now ≤ trace_limit }
-    ensures* { λ r. ⌜ result r entries.new
-        ≡ walk_over (as_panel left right ram.now) trace.now entries.old ⌝ }
+    ensures { result_of result entries.new
+        ≡ walk_over (as_panel left right ram.now) trace.now entries.old }
 {
     let mut image = [0u8; IMAGE_BYTES];
     basics::copy(ram, &mut image);

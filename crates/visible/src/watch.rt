@@ -8,7 +8,7 @@ use sed1520::bus::Record;
 use sed1520::registers::Chip;
 
 // A record's number, both chips after it, and how many pixels of each half differ from before it.
-#[derive(Drop)]
+#[derive(Clone, Copy)]
 pub(crate) struct Watched {
     pub number: u8,
     pub left: Chip,

@@ -1,5 +1,8 @@
 // Replays the raw bytes of standard input on fresh chips with RAM all 0, and prints how often each RAM byte was stored to,
 // page by page, the sum, and the end line.
+
+#![tactic(auto)]
+
 mod text;
 
 ghost use Rattle.std.specs.Prelude.{◌≤◌, ◌≡◌, length, replicate};

@@ -6,7 +6,7 @@ use mathlib.Core.List.{List, []}
 use lib.ListN.{length}
 use borrow.Author.Rules.{rules}
 use Rattle.basics.specs.Table.{verdict_by, NoneHolds}
-use Rattle.basics.specs.Verdict.{verdict, Result, result}
+use Rattle.basics.specs.Verdict.{verdict, Result, result_of}
 use Rattle.panel.specs.Panel.{Panel, as_panel, Whole}
 use Rattle.visible.specs.Sight.{entries_ran, walked_of, walk_over}
 use Rattle.visible.specs.declared.walk.Walked.{Walked}
@@ -69,7 +69,7 @@ first_walk c = c.before.before.before.before.before.before
 
 -- the second walk: the same, and all entries written
 written : (c : tie.After-walk-over2) → let at = start (first_walk c.before.before).before.before.before.before in
-    result c.walk-over2.result c.walk-over2.new.1.1.1.1.0 ≡ walk_over (panel at) at.args.trace.now at.args.entries.now
+    result_of c.walk-over2.result c.walk-over2.new.1.1.1.1.0 ≡ walk_over (panel at) at.args.trace.now at.args.entries.now
 written c = rw (unwritten (first_walk c.before.before)) at c.walk-over2.ensures
 
 returns-4 : tie.Need-returns-4
@@ -78,7 +78,7 @@ returns-4 c =
     let fits = second.before.before in
     let walk = first_walk fits in
     rw c.new3.ensures
-    (ap (λ (f : Result Walked (List ℕ)). result (verdict 0 f.answer.entries) f.lent) (written second)
+    (ap (λ (f : Result Walked (List ℕ)). result_of (verdict 0 f.answer.entries) f.lent) (written second)
     ∙ sym (all_listed _ _ _ (passed walk.before.before) _ (counted walk) (omega arith) fits.if3.false))
 
 same-length-3 : tie.Need-same-length-3

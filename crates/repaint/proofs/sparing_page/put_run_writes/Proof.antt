@@ -7,7 +7,7 @@ use mathlib.Core.Bool.{Bool, not}
 use mathlib.Core.List.{flat_map}
 use lib.ListN.{length, length-take, length-drop}
 use Rattle.basics.specs.Lists.{joined, tabulated}
-use Rattle.basics.specs.Verdict.{result}
+use Rattle.basics.specs.Verdict.{result_of}
 use Rattle.basics.proofs.Filling.{Begun, begun-none, begun-length}
 use Rattle.frame.specs.Frame.{segments}
 use Rattle.repaint.specs.Repaint.{column_segment, column_write}
@@ -59,7 +59,7 @@ more j h = omega arith
 -- the writes are those up to the column where the run ends
 ended : (l : tie.At-loop invariant-loop decreases-loop) → let start = l.before.before.before.before in let at = start.args in
     next_column (equal start) at.from (segments - at.from) ≡ l.loop.column
-    → result l.loop.bytes l.loop.output
+    → result_of l.loop.bytes l.loop.output
     ≡ put_front (run_writes at.chip at.which at.picture.now at.band (test start) at.from) at.output.now
 ended l ends =
     let at = l.before.before.before.before.args in

@@ -3,7 +3,7 @@ use Prim.Native.Nat.{ℕ}
 use mathlib.Core.Path.{◌≡◌, sym, ap, ◌∙◌}
 use lib.ListN.{replicate, length-replicate}
 use borrow.Author.Rules.{rules}
-use Rattle.basics.specs.Verdict.{Result, result}
+use Rattle.basics.specs.Verdict.{Result, result_of}
 use Rattle.basics.proofs.Bytes.{copied-whole}
 use Rattle.visible.specs.Sight.{WalkLent}
 use Rattle.visible.specs.declared.walk.Walked.{Walked}
@@ -25,7 +25,7 @@ walk-requires c κs =
 returns : tie.Need-returns
 returns c =
     let ran = c.before.before.before in
-    ap (λ (w : Result Walked WalkLent). result w.answer w.lent.entries)
+    ap (λ (w : Result Walked WalkLent). result_of w.answer w.lent.entries)
     (rw (copied ran.before.before.before.before) at ran.walk.ensures)
 
 pub walk-over-spec : {M : Type 1} → statement M
