@@ -1,13 +1,13 @@
 -- The number of every cycle is the one that its table gives.
 use Prim.Native.Nat.{ℕ, ◌+◌, ◌-◌, ◌<◌}
 use native.Mathlib.Omega.{arith}
-use mathlib.Core.Path.{◌≡◌, refl, sym, ap, ◌∙◌}
-use mathlib.Core.Bool.{Bool, true, false, not, ◌&&◌, ◌||◌, true≢false}
+use mathlib.Core.Path.{◌≡◌, refl, sym, ◌∙◌}
+use mathlib.Core.Bool.{Bool, true, false, not, ◌&&◌, ◌||◌}
 use mathlib.Core.List.{List, [], ◌∷◌, ◌++◌}
 use mathlib.Core.Option.{Option, none, some}
 use lib.Dec.{ltb, leb, eqb}
 use lib.ListN.{length}
-use borrow.Author.Tests.{eqb-true, eqb-false, eq-eqb, ne_eqb, leb-false}
+use borrow.Author.Tests.{eqb-true, eqb-false, ne_eqb, leb-false}
 use Rattle.basics.specs.Choice.{if}
 use Rattle.basics.specs.Table.{cause, verdict_by}
 use Rattle.basics.specs.Verdict.{verdict}
@@ -16,11 +16,10 @@ use Rattle.basics.proofs.Table.{each_line, EachLine, of-first, exactly-when, don
 use borrow.Author.Rules.{rules}
 use Rattle.basics.proofs.Tests.{when, when-both}
 use Rattle.sed1520.specs.Chip.{column_stop, in_range}
-use Rattle.sed1520.specs.Command.{first, within, opcodes, among, as_command, decode_of, is_command}
+use Rattle.sed1520.specs.Command.{first, within, opcodes, among, as_command, decode_of}
 use Rattle.sed1520.specs.Cycle.{Outcome, refusal, answered, execute, executed, command_write, data_write, data_read, read_line, write_line}
-use Rattle.sed1520.specs.Cycle.{address_line, action_of, bus_table, bus_refusal, step_of, state_table, cycle_of}
+use Rattle.sed1520.specs.Cycle.{address_line, action_of, bus_table, bus_refusal, step_of, cycle_of}
 use Rattle.sed1520.specs.CycleNumbers.{command_table, cycle_table, EveryCycleNumber}
-use Rattle.sed1520.specs.declared.actions.Answer.{Answer}
 use Rattle.sed1520.specs.declared.registers.Chip.{Chip}
 use Rattle.sed1520.specs.declared.commands.Opcode.{Opcode}
 use Rattle.sed1520.specs.declared.commands.Opcode.TheVariants.{Column}

@@ -2,20 +2,20 @@
 use Prim.Native.Nat.{ℕ, ◌+◌, ◌<◌}
 use native.Mathlib.Omega.{arith}
 use mathlib.Core.Path.{◌≡◌, refl, sym, ◌∙◌}
-use mathlib.Core.Bool.{true, false}
+use mathlib.Core.Bool.{true}
 use mathlib.Core.List.{List}
 use mathlib.Core.Logic.{⊎_elim}
 use mathlib.Core.Option.{Option, none, some, some-injective, none-ne-some}
 use lib.Dec.{eqb, ltb}
 use lib.ListN.{length, set, length-set}
 use lib.Seq.{get_or-set_same, get_or-set_other}
-use borrow.Author.Tests.{eq-eqb, eqb-true, eqb-false, ltb-true}
+use borrow.Author.Tests.{eqb-true, eqb-false, ltb-true}
 use Rattle.basics.specs.Choice.{if}
 use Rattle.basics.proofs.Tests.{tested, when}
 use Rattle.sed1520.specs.Chip.{in_range}
 use Rattle.sed1520.specs.Cycle.{Outcome, bus_refusal, data_write, data_read, cycle_of, stored_index}
 use Rattle.sed1520.specs.Memory.{ram_index, image_index, byte_set}
-use Rattle.sed1520.specs.Stores.{finds_column, OneStored, SaidByte, SaysStored, EveryCycleSays}
+use Rattle.sed1520.specs.Stores.{finds_column, OneStored, SaidByte, EveryCycleSays}
 use Rattle.sed1520.specs.declared.registers.Chip.{Chip}
 use Rattle.sed1520.specs.declared.bus.Record.{Record}
 use Rattle.sed1520.proofs.Cells.{within-ram}

@@ -1,6 +1,6 @@
 -- What is proved of the RAM byte that a cycle says it stored to (request C-16).
 use Rattle.std.specs.Prelude.{ℕ, ◌*◌, ◌<◌, ◌≡◌, Bool, ◌&&◌, List, ltb, eqb, length, get_or}
-use Rattle.std.proofs.Math.Option.{Option, none, some}
+use Rattle.std.proofs.Math.Option.{none, some}
 use Rattle.basics.specs.Choice.{if}
 use Rattle.sed1520.specs.Chip.{column_stop}
 use Rattle.sed1520.specs.Cycle.{Outcome, cycle_of, stored_index}

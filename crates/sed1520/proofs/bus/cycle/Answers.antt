@@ -20,7 +20,7 @@ returns-then-not-in_range c =
 pub returns-then-number-ne0 : goal.returns-then-number-ne0
 returns-then-number-ne0 c =
     let within : in_range c.args.chip ≡ true =
-        sym c.in_range.ensures ∙ not-false _ c.if-not-in_range.false-raw
+    sym c.in_range.ensures ∙ not-false _ c.if-not-in_range.false-raw
     in
     let reported = c.refusal-number.ensures in
     let refused = step-refused _ _ _ (λ e. c.if-number-ne0.true (reported ∙ e)) in
@@ -29,7 +29,7 @@ returns-then-number-ne0 c =
 pub act-requires : goal.act-requires
 act-requires c =
     let not-refused : bus_refusal c.args.bus ≡ 0 =
-        sym c.refusal-number.ensures ∙ c.if-number-ne0.false
+    sym c.refusal-number.ensures ∙ c.if-number-ne0.false
     in
     let asked = asks _ (not-refused) in
     (asked.from, asked.to)
@@ -37,10 +37,10 @@ act-requires c =
 pub returns : goal.returns
 returns c =
     let within : in_range c.args.chip ≡ true =
-        sym c.in_range.ensures ∙ not-false _ c.if-not-in_range.false-raw
+    sym c.in_range.ensures ∙ not-false _ c.if-not-in_range.false-raw
     in
     let not-refused : bus_refusal c.args.bus ≡ 0 =
-        sym c.refusal-number.ensures ∙ c.if-number-ne0.false
+    sym c.refusal-number.ensures ∙ c.if-number-ne0.false
     in
     rw c.act.ensures
     (sym (cycle-step _ _ _ (omega arith) (within) ∙ step-action _ _ _ (not-refused)))

@@ -12,7 +12,7 @@ pub returns-in_default : goal.returns-in_default
 unfolding command_write
 returns-in_default c =
     let none = no-command _ _ _ c.decode.ensures c.in_default.is in
-     record {
+    record {
       number = rw none;
       bytes = rw none;
     }
@@ -21,12 +21,12 @@ pub returns-then-number-eq0 : goal.returns-then-number-eq0
 unfolding registers_in
 returns-then-number-eq0 c =
     let known : (decode_of c.args.byte).value ≡ some c.in-Known.command =
-        known-command _ _ _ c.decode.ensures c.in-Known.is
+    known-command _ _ _ c.decode.ensures c.in-Known.is
     in
     let is = known in
     let b = c.args.bytes.now in
     let done = command-executed _ (registers_in b) _ is (sym c.column_refusal-number.ensures ∙ c.if-number-eq0.true) in
-     record {
+    record {
       number = rw done c.if-number-eq0.true;
       bytes = rw (done, is) c.execute.ensures;
     }
@@ -35,12 +35,12 @@ pub returns-else-number-eq0 : goal.returns-else-number-eq0
 unfolding registers_in
 returns-else-number-eq0 c =
     let known : (decode_of c.args.byte).value ≡ some c.in-Known.command =
-        known-command _ _ _ c.decode.ensures c.in-Known.is
+    known-command _ _ _ c.decode.ensures c.in-Known.is
     in
     let number = c.column_refusal-number.ensures in
     let b = c.args.bytes.now in
     let refused = command-refused _ (registers_in b) _ (known) (λ none. c.if-number-eq0.false (number ∙ none)) in
-     record {
+    record {
       number = rw refused number;
       bytes = rw (refused, ne_eqb _ 0 (λ none. c.if-number-eq0.false (number ∙ none)));
     }

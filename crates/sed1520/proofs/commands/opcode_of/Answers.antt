@@ -89,5 +89,5 @@ returns-in_default-6 c =
 
 pub returns-in_default-7 : goal.returns-in_default-7
 returns-in_default-7 c =
-    let others = c.in_default-1.rest in
+    let others = c.in_default.in_default-own.rest in
     sym (above-start-lines _ (omega arith) (omega arith) others.0.0.1 others.0.1 others.1)

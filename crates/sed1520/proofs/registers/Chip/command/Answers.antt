@@ -14,7 +14,7 @@ returns-in_default c =
 pub returns-then-number-ne0 : goal.returns-then-number-ne0
 returns-then-number-ne0 c =
     let known : (decode_of c.args.byte).value ≡ some c.in-Known.command =
-        known-command _ _ _ c.decode.ensures c.in-Known.is
+    known-command _ _ _ c.decode.ensures c.in-Known.is
     in
     let number = c.column_refusal-number.ensures in
     rw (c.refused-then-number-ne0.ensures, number)
@@ -23,7 +23,7 @@ returns-then-number-ne0 c =
 pub returns : goal.returns
 returns c =
     let known : (decode_of c.args.byte).value ≡ some c.in-Known.command =
-        known-command _ _ _ c.decode.ensures c.in-Known.is
+    known-command _ _ _ c.decode.ensures c.in-Known.is
     in
     rw (c.done.ensures, c.execute.ensures)
     (sym (command-executed _ _ _ (known) (sym c.column_refusal-number.ensures ∙ c.if-number-ne0.false)))

@@ -14,6 +14,7 @@ use Rattle.sed1520.proofs.registers.Chip.data_write.Goals as goal
 module _ (k b : ℕ) (c next : Chip) (ram : List ℕ) (stale : next ≡ staled c) where
   stopped : 80 ≤ c.column → outcome (answered 0 0 next) ram ≡ data_write k b c ram
   stopped full = rw stale (sym (data-write-stopped c ram full k b))
+
   stored : c.column < 80
       → outcome (wrote_to (image_index k c.page c.column) (with_column (c.column + 1) next)) (byte_set ram c.page c.column b)
       ≡ data_write k b c ram
