@@ -1,17 +1,15 @@
 -- Two chips on one bus: a record changes its own chip and that chip's 320 bytes, and leaves the other chip and its bytes alone.
-use Prim.Native.Nat.{ℕ}
 use mathlib.Core.Path.{◌≡◌, refl, ◌∙◌}
 use mathlib.Core.Bool.{Bool, true, false}
 use mathlib.Core.List.{List}
 use lib.Dec.{eqb}
-use lib.ListN.{length}
 use Rattle.basics.specs.Choice.{if}
 use Rattle.basics.proofs.Halves.{part_length, same_back, put-own, put_other, put-length}
 use Rattle.basics.proofs.Run.{run-keeps}
 use Rattle.basics.proofs.Tests.{when, own-choice, other-choice}
 use Rattle.sed1520.specs.Chip.{in_range}
 use Rattle.panel.specs.Panel.{Panel, as_panel, chip_at, ram_at, outcome_of, stepped, panel_step, after, Whole}
-use Rattle.panel.specs.Promises.{EveryHalfWhole, Apart, EveryRecordApart}
+use Rattle.panel.specs.Promises.{EveryHalfWhole, EveryRecordApart}
 use Rattle.sed1520.specs.declared.registers.Chip.{Chip}
 use Rattle.sed1520.specs.declared.bus.Record.{Record}
 use Rattle.sed1520.proofs.CycleKeeps.{cycle-keeps}

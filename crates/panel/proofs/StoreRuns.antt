@@ -1,17 +1,17 @@
 -- The bytes that records store to: data writes to one chip, one after the other, store to the bytes from where the first stands up to where the next
 -- one would; other records store to none.
-use Prim.Native.Nat.{ℕ, ◌+◌, ◌<◌, ◌≤◌}
+use Prim.Native.Nat.{ℕ, ◌+◌, ◌≤◌}
 use native.Mathlib.Omega.{arith}
 use mathlib.Core.Path.{◌≡◌, refl, ◌∙◌}
 use mathlib.Core.Bool.{Bool, true, false}
 use mathlib.Core.List.{List, [], ◌∷◌}
 use mathlib.Core.Logic.{⊎_elim}
-use mathlib.Core.Option.{Option, none, some}
+use mathlib.Core.Option.{none, some}
 use lib.Dec.{ltb, eqb}
 use borrow.Author.Tests.{eqb-true}
 use Rattle.basics.specs.Choice.{if}
 use Rattle.basics.specs.Counts.{lies_in}
-use Rattle.basics.specs.Run.{Run, as_run, answered_first, run_of}
+use Rattle.basics.specs.Run.{Run, as_run, answered_first}
 use Rattle.basics.proofs.Counts.{lies-in-none, lies-first}
 use Rattle.basics.proofs.Run.{run-accepted, run-refused, run_none}
 use Rattle.basics.proofs.RunOfPart.{Each}

@@ -1,6 +1,5 @@
 -- Both chips and their 24 bytes: each way undoes the other, and number 2 of the chips is that of the bytes.
 use Prim.Native.Nat.{ℕ}
-use native.Mathlib.Omega.{arith}
 use mathlib.Core.Path.{◌≡◌, refl, ◌∙◌}
 use mathlib.Core.Bool.{Bool, true, ◌&&◌}
 use mathlib.Core.List.{List}

@@ -1,6 +1,6 @@
 -- What is proved of the byte of the image that a record says it stored to, and how many bytes records store to (request C-16).
 use Rattle.std.specs.Prelude.{ℕ, ◌+◌, ◌<◌, ◌≡◌, List, [], ◌∷◌, eqb, length}
-use Rattle.std.proofs.Math.Option.{Option, none, some}
+use Rattle.std.proofs.Math.Option.{none, some}
 use Rattle.basics.specs.Choice.{if}
 use Rattle.sed1520.specs.Cycle.{stored_index}
 use Rattle.sed1520.specs.Memory.{image_index}
