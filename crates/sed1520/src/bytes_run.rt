@@ -83,7 +83,7 @@ fn read_run(chip: u8, bytes: &mut [u8], ram: &[u8], trace: &[u8], answers: &mut 
     let mut compared: u64 = 0;
     let mut differing: u64 = 0;
     let mut n = 0;
-    while carried(trace, n, 5, chip) {
+    'reads: while carried(trace, n, 5, chip) {
         let fresh = bit(mark == 1);
         answers[ANSWER_BYTES * n] = 2 - fresh;
         answers[ANSWER_BYTES * n + 1] = latch;

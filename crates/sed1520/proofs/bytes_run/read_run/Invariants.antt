@@ -6,8 +6,8 @@ use Rattle.sed1520.specs.BytesRun.{with_ram}
 use Rattle.sed1520.proofs.RunUpto.{Upto}
 use Rattle.sed1520.proofs.bytes_run.read_run.Given as goal
 
-abbrev pub invariant-loop-mark : goal.invariant-loop-mark
-invariant-loop-mark l = Upto 5 l.chip (with_ram l.bytes l.ram) l.trace l.initial.answers l.n (with_ram (set (set (set l.bytes 7 l.column) 9 l.mark) 10 l.latch) l.ram) l.answers l.compared l.differing
+abbrev pub invariant-reads : goal.invariant-reads
+invariant-reads l = Upto 5 l.chip (with_ram l.bytes l.ram) l.trace l.initial.answers l.n (with_ram (set (set (set l.bytes 7 l.column) 9 l.mark) 10 l.latch) l.ram) l.answers l.compared l.differing
 
-abbrev pub decreases-loop-mark : goal.decreases-loop-mark
-decreases-loop-mark l = length l.trace / 4 - l.n
+abbrev pub decreases-reads : goal.decreases-reads
+decreases-reads l = length l.trace / 4 - l.n
