@@ -13,9 +13,9 @@ use crate::text::put_wear;
 use console::input::{Input, read_input};
 use console::text::put_end;
 use console::{ANSWERS_BYTES, INPUT_BYTES};
-use libc::STDOUT_FILENO;
 use panel::chips::IMAGE_BYTES;
 use sed1520::registers::Chip;
+use std::io::Print;
 
 // Enough for 8 lines of at most 1,727 bytes, the sum and the end line.
 type TextBytes = [u8; 13929];
@@ -57,12 +57,14 @@ fn listing(trace: &[u8], out: &mut [u8]) -> usize
 
 // A read that fails prints nothing. The text goes out in one piece with the end line last, so a write that falls short
 // prints no whole end line.
-fn main() {
+fn main(rt: HostRuntime) {
     let mut trace = [0; INPUT_BYTES];
-    let Input::Read(count) = read_input(&mut trace) else {
+    let Input::Read(count) = read_input(&mut rt.stdin(), &mut trace) else {
         return;
     };
     let mut out = text_buffer();
     let size = listing(&trace[..count], &mut out);
-    io::write_all(STDOUT_FILENO, &out[..size]);
+    match rt.stdout().write_all(&out[..size]) {
+        Ok(()) | Err(_) => {}
+    }
 }
