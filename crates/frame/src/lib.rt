@@ -110,6 +110,7 @@ fn fill(left: Chip, right: Chip, ram: &[u8], frame: &mut [u8])
 }
 
 // Number 1: an image that is not 640 bytes, or a frame buffer that is not 488.
+#[tactic(auto, using(std::proofs::lemmas::Bool::Decides::nat_tests), unfolding(crate::specs::Frame::frame_sizes_wrong))]
 fn sizes_wrong(ram: usize, frame: usize) -> bool
     ensures { result ≡ frame_sizes_wrong ram frame }
 {

@@ -5,6 +5,7 @@ ghost use Rattle.frame.specs.Frame.{frame_place};
 use sed1520::registers::Chip;
 
 // The place of the byte of a chip's segment n in band r.
+#[tactic(auto, using(std::proofs::lemmas::Bool::Decides::nat_tests), unfolding(crate::specs::Frame::frame_place))]
 pub fn place(chip: u8, n: u8, r: u8) -> usize
     ensures { result ≡ frame_place chip n r }
 {

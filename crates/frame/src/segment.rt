@@ -68,6 +68,7 @@ pub struct Segment {
 
 // The pixels of a segment: number 1 for RAM that is not 320 bytes or a segment that the chip does not drive, 2 for a chip
 // out of range.
+#[tactic(auto, using(std::proofs::lemmas::Bool::Decides::nat_tests), unfolding(crate::specs::Frame::segment_pixels))]
 pub fn segment_pixels(chip: Chip, ram: &[u8], n: usize) -> Segment
     ensures { result ≡ segment_pixels chip ram.now n }
 {

@@ -16,10 +16,12 @@ use Rattle.sed1520.specs.Records.{record_bytes, records_bytes}
 use Rattle.sed1520.specs.declared.registers.Chip.{Chip}
 use Rattle.sed1520.specs.declared.bus.Record.{Record}
 use Rattle.sed1520.proofs.Records.{bytes-append, bytes-length}
-use Rattle.repaint.specs.Sparing.{passes_before, chosen_columns, chosen_page, chip_records, put_front}
+use Rattle.frame.specs.Frame.{segments}
+use Rattle.repaint.specs.Sparing.{passes_before, chosen_columns, chosen_page, chip_records, put_front, next_column}
 use Rattle.repaint.proofs.Counts.{chip-length, chip-few}
 use Rattle.repaint.proofs.RunByRun.{run-added}
-use Rattle.repaint.proofs.ChosenColumns.{cycles-few, columns-length, chosen-length, chosen-few}
+use Rattle.repaint.proofs.NextColumn.{next-is}
+use Rattle.repaint.proofs.ChosenColumns.{none-counted, cycles-few, columns-length, chosen-length, chosen-few}
 use Rattle.repaint.specs.Repaint.{column_segment, picture_byte, column_write, column_set, page_records, turn, repaint_records}
 
 -- four bytes written to the front
@@ -105,6 +107,14 @@ module _ (c : Chip) (chip : ℕ) (picture : List ℕ) (r : ℕ) (test : ℕ → 
 pub chosen-bytes : (c : Chip) (chip : ℕ) (picture : List ℕ) (r : ℕ) (test : ℕ → Bool) {n : ℕ}
     → n ≡ 4 * length (chosen_page c chip picture r test) → n ≤ 252
 chosen-bytes c chip picture r test many = omega (arith, many, chosen-length test c chip picture r, chosen-few test)
+
+-- where the search for the first column that passes comes to the end, the page takes none
+pub page_unchanged : (c : Chip) (chip : ℕ) (picture : List ℕ) (r : ℕ) (test : ℕ → Bool) (buffer : List ℕ) → segments ≤ next_column test 0 segments
+    → result_of 0 buffer ≡ put_front (chosen_page c chip picture r test) buffer
+unfolding chosen_page flat_map
+page_unchanged c chip picture r test buffer h =
+    let first = next-is test 0 segments refl in
+    rw (none-counted test (λ j l. first.before j (omega arith) (omega arith)))
 
 -- both pages of a chip take 504 bytes at most
 pub chip-bytes : (c : Chip) (chip : ℕ) (ram picture : List ℕ) {n : ℕ} → n ≡ 4 * length (chip_records c chip ram picture) → n ≤ 504

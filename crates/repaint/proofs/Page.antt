@@ -1,6 +1,6 @@
 -- One hidden page of either chip, of which those columns are written that pass a test and the others hold their byte already. Every stop is quiet;
 -- afterwards the page holds its band of the picture, and every other byte is as it was.
-use Prim.Native.Nat.{ℕ, ◌+◌, ◌-◌, ◌/◌, ◌<◌, ◌≤◌}
+use Prim.Native.Nat.{ℕ, ◌+◌, ◌-◌, ◌<◌, ◌≤◌}
 use native.Mathlib.Omega.{arith}
 use mathlib.Core.Path.{◌≡◌, refl, sym, ap, ◌∙◌}
 use mathlib.Core.Bool.{Bool, true, false, true≢false, false≢true}
@@ -39,21 +39,12 @@ pub record InBand (c : Chip) (r page column : ℕ) : Type 0 where
 
 -- the hidden pages follow each other
 pub pages-apart : (c : Chip) (i r : ℕ) → hidden_page c i ≡ hidden_page c r → i ≡ r
-pages-apart c i r e = apart (eqb c.start_line 0) e
-  where
-    apart : (t : Bool) → if t (2 + i) i ≡ if t (2 + r) r → i ≡ r
-    apart true e = omega arith
-    apart false e = e
+pages-apart c i r e = ⊎_elim (λ t. let e' = rw t at e in omega arith) (λ t. rw t at e) (tested (eqb c.start_line 0))
 
 -- a hidden page is not shown
 page-hidden : (c : Chip) → Ready c → (i : ℕ) → i < 2 → (r : ℕ) → r < 2 → shown_page c r ≡ hidden_page c i → ⊥
-page-hidden c ready i h r l e = ⊎_elim (λ z. at_zero z (rw z at e)) (λ z. at-sixteen z (rw z at e)) (two-pages c ready).line
-  where
-    at_zero : c.start_line ≡ 0 → 0 / 8 + r ≡ if (eqb 0 0) (2 + i) i → ⊥
-    at_zero z e = omega arith
-
-    at-sixteen : c.start_line ≡ 16 → 16 / 8 + r ≡ if (eqb 16 0) (2 + i) i → ⊥
-    at-sixteen z e = omega arith
+page-hidden c ready i h r l e =
+    ⊎_elim (λ z. let e' = rw z at e in omega arith) (λ z. let e' = rw z at e in omega arith) (two-pages c ready).line
 
 -- segments and columns in one direction are each other's
 segment-column : (c : Chip) (n : ℕ) → n < segments → ram_column c n ≡ lowest_column c + column_segment c n

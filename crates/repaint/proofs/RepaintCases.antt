@@ -2,7 +2,7 @@
 use Prim.Native.Nat.{ℕ, ◌<◌, ◌≤◌}
 use native.Mathlib.Omega.{arith}
 use mathlib.Core.Path.{◌≡◌, sym, ◌∙◌}
-use mathlib.Core.Bool.{false, not}
+use mathlib.Core.Bool.{true, false, not}
 use mathlib.Core.List.{List, ◌++◌}
 use mathlib.Core.Logic.{inr, ⊎_elim}
 use lib.Dec.{ltb, eqb}
@@ -67,6 +67,11 @@ module _ (left right : Chip) (picture buffer : List ℕ) where
   unfolding repaint_of
   places-small = call-place table buffer given (λ at. at < 65536) (search rules) (λ _. omega arith)
 
+  pub wrong_size : repaint_sizes_wrong (length picture) (length buffer) ≡ true
+      → repaint_of left right picture buffer ≡ result_of (verdict 1 0) buffer
+  unfolding repaint_of
+  wrong_size wrong = rw wrong
+
   -- the sizes right, and then the verdict on both chips: a number refuses, and number 0 gives the records
   module _ (sizes : repaint_sizes_wrong (length picture) (length buffer) ≡ false) (v : Verdict) (e : v ≡ chips_verdict left right) where
     pub chips-refused : (v.number ≡ 0 → ⊥) → result_of v buffer ≡ repaint_of left right picture buffer
@@ -84,3 +89,6 @@ module _ (left right : Chip) (picture buffer : List ℕ) where
 pub repaint-numbers : RepaintNumbers
 unfolding repaint_of
 repaint-numbers left right picture buffer = call-exactly (table left right picture buffer) buffer (given left right picture buffer)
+
+-- a call case by case
+pub ruleset call_cases = (sizes-right, wrong_size, chips-refused, chips-ready)

@@ -80,3 +80,6 @@ sparing-sizes-right ram picture buffer e =
 pub sparing-numbers : SparingNumbers
 unfolding sparing_of
 sparing-numbers p picture buffer = call-exactly (table p picture buffer) buffer (given p picture buffer)
+
+-- a refused call, case by case
+pub ruleset call_cases = (sparing-sizes-right, wrong_size, refused)

@@ -1,7 +1,7 @@
 -- Demand 3: of every repaint of a list, sparing or not, each stopped after any whole cycle, only the last two cycles change what the panel shows.
 use Prim.Native.Nat.{ℕ, ◌+◌, ◌*◌, ◌<◌, ◌≤◌}
 use native.Mathlib.Omega.{arith}
-use mathlib.Core.Path.{◌≡◌, refl, sym, ◌∙◌}
+use mathlib.Core.Path.{◌≡◌, refl, sym, subst, ◌∙◌}
 use mathlib.Core.Bool.{Bool, true, false}
 use mathlib.Core.List.{List, [], ◌∷◌, ◌++◌, map}
 use mathlib.Core.Logic.{⊎_elim}
@@ -149,7 +149,7 @@ unfolding AllSafe
 plain-safe p [] all = λ q. rw (plain-asked p q) at (all (as_request q))
 plain-safe p (q ∷ qs) all =
     let e = plain-asked p q in
-    (rw e at all.0, rw (← e) (plain-safe (leaves p (asked p (as_request q))) qs all.1))
+    (rw e at all.0, subst (λ x. AllSafe plain_asked (leaves p x) qs) e (plain-safe (leaves p (asked p (as_request q))) qs all.1))
 
 pub plain-tear-free : PlainTearFree
 plain-tear-free p ready qs = plain-safe p qs (tear-free p ready (map as_request qs))

@@ -2,14 +2,13 @@
 use Prim.Native.Nat.{ℕ, ◌+◌, ◌-◌, ◌/◌, ◌%◌, ◌<◌, ◌≤◌}
 use native.Mathlib.Omega.{arith}
 use mathlib.Core.Path.{◌≡◌, refl, sym, ap, ◌∙◌}
-use mathlib.Core.Bool.{Bool, true, false, ◌||◌}
+use mathlib.Core.Bool.{true, ◌||◌}
 use mathlib.Core.List.{List}
 use mathlib.Core.Logic.{⊎_elim}
 use lib.Dec.{eqb, ltb}
 use lib.ListN.{length, get_or, replicate, get_or-replicate, get_or-append}
 use lib.Seq.{get_or-append-add}
 use borrow.Author.Tests.{ltb-true, ltb-false}
-use Rattle.basics.specs.Choice.{if}
 use Rattle.basics.proofs.Tests.{tested, when}
 use Rattle.sed1520.specs.Chip.{with_start_line}
 use Rattle.sed1520.specs.Memory.{byte_at}
@@ -39,11 +38,7 @@ pub record Turned (c : Chip) (k : ℕ) (picture : List ℕ) (d : Chip) (ram : Li
 
 -- the turned start line shows the hidden pages
 turned-page : (c : Chip) (r : ℕ) → turned_line c / 8 + r ≡ hidden_page c r
-turned-page c r = at (eqb c.start_line 0)
-  where
-    at : (t : Bool) → if t 16 0 / 8 + r ≡ if t (2 + r) r
-    at true = refl
-    at false = omega arith
+turned-page c r = ⊎_elim (λ t. rw t (omega arith)) (λ t. rw t (omega arith)) (tested (eqb c.start_line 0))
 
 -- the upper bytes of the frame that a picture asks for are the picture's, the lower ones 0
 module _ (picture : List ℕ) (size : length picture ≡ picture_length) (k n : ℕ) (segment : n < segments) where

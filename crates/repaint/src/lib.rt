@@ -33,6 +33,7 @@ const PAGE_RECORDS: usize = 2 + Chip::SEGMENTS;
 const PAGE_BYTES: usize = RECORD_BYTES * PAGE_RECORDS;
 
 // Number 1: a picture that is not 244 bytes, or an output buffer under 1,016.
+#[tactic(auto, using(std::proofs::lemmas::Bool::Decides::nat_tests), unfolding(crate::specs::Repaint::repaint_sizes_wrong))]
 pub(crate) fn sizes_wrong(picture: usize, output: usize) -> bool
     ensures { result ≡ repaint_sizes_wrong picture output }
 {
@@ -66,6 +67,7 @@ fn wrong_line(chip: Chip) -> bool
 
 // Numbers 2 and 9 to 12, lowest first, left before right; else done. Built from the last test to the first: each value is
 // the answer from its number on.
+#[tactic(auto, unfolding(crate::specs::Repaint::chips_verdict))]
 pub(crate) fn chips_verdict(left: Chip, right: Chip) -> Verdict
     ensures { result ≡ chips_verdict left right }
 {
@@ -93,6 +95,7 @@ fn put_records(left: Chip, right: Chip, picture: &[u8], output: &mut [u8])
 }
 
 // The repaint of a picture on two chips, into an output buffer of at least 1,016 bytes.
+#[tactic(auto, using(crate::proofs::RepaintCases::call_cases))]
 pub fn repaint(left: Chip, right: Chip, picture: &[u8], output: &mut [u8]) -> Verdict
     ensures { result_of result output.new ≡ repaint_of left right picture.now output.old }
 {

@@ -47,6 +47,7 @@ fn put_sparing(left: Chip, right: Chip, ram: &[u8], picture: &[u8], output: &mut
 }
 
 // The sparing repaint of a picture on two chips and their image, into an output buffer of at least 1,016 bytes.
+#[tactic(auto, using(crate::proofs::SparingCases::call_cases))]
 pub fn sparing_repaint(
     left: Chip,
     right: Chip,

@@ -111,6 +111,7 @@ fn put_columns(
 }
 
 // A hidden page: nothing where no column differs, else the page set and the columns that do; gives how many bytes it wrote.
+#[tactic(auto, using(crate::proofs::Bytes::page_unchanged))]
 fn put_changed_page(
     chip: Chip,
     which: u8,

@@ -1,7 +1,7 @@
 -- One part more: a feed that took some bytes takes the next ones, and is then the feed that took all of them.
 use Prim.Native.Nat.{ℕ, ◌+◌, ◌-◌, ◌*◌, ◌/◌, ◌%◌, ◌≤◌}
 use native.Mathlib.Omega.{arith}
-use mathlib.Core.Path.{◌≡◌, refl, sym, ap, subst, ◌∙◌}
+use mathlib.Core.Path.{◌≡◌, sym, ap, subst, ◌∙◌}
 use mathlib.Core.Bool.{true, false, true≢false}
 use mathlib.Core.List.{List, [], ◌++◌, append-nil}
 use mathlib.Core.Logic.{⊎_elim}
@@ -29,7 +29,7 @@ use Rattle.trace.specs.Feed.{not_taken, moved_on, took_part, part_of}
 use Rattle.trace.specs.Wear.{part_replies}
 use Rattle.trace.specs.FeedPromises.{Part, given, own_answers, refuses_part, feed_after, fed_after}
 use Rattle.trace.specs.declared.progress.Progress.{Progress}
-use Rattle.trace.specs.declared.progress.Ending.TheVariants.{Open, Stopped}
+use Rattle.trace.specs.declared.progress.Ending.TheVariants.{Open}
 use Rattle.trace.specs.declared.feed.Feed.{Feed}
 use Rattle.trace.specs.declared.feed.Fed.{Fed}
 use Rattle.sed1520.proofs.Counts.{compared-bound, compared-join, differing-compared, differing-join, differing-front}

@@ -1,7 +1,7 @@
 -- Parts given one after the other run the whole records of all their bytes; so any cut of a trace is its replay.
 use Prim.Native.Nat.{ℕ, ◌+◌, ◌/◌, ◌%◌, ◌≤◌}
 use native.Mathlib.Omega.{arith}
-use mathlib.Core.Path.{◌≡◌, refl, sym, ap, ◌∙◌}
+use mathlib.Core.Path.{◌≡◌, sym, ap, ◌∙◌}
 use mathlib.Core.List.{List, [], ◌∷◌, ◌++◌, flat_map, append-nil, append_assoc}
 use lib.ListN.{length, length-append}
 use Rattle.basics.specs.Lists.{pieces}
@@ -11,7 +11,7 @@ use Rattle.panel.specs.Panel.{Panel}
 use Rattle.panel.specs.Trace.{trace_run}
 use Rattle.sed1520.specs.Replies.{compared_in, differing_in, replies_bytes}
 use Rattle.trace.specs.Feed.{begun, as_feed, open_of, PartOutcome, part_outcome, fed_by}
-use Rattle.trace.specs.FeedPromises.{Part, joined_bytes, given, fed_parts, Taken, fed_after}
+use Rattle.trace.specs.FeedPromises.{Part, joined_bytes, fed_parts, Taken, fed_after}
 use Rattle.trace.specs.FeedPromises.{FeedsRun, BuffersFit, Short, FittingTaken}
 use Rattle.trace.specs.declared.progress.Ending.TheVariants.{Open}
 use Rattle.trace.specs.declared.feed.Fed.{Fed}

@@ -10,7 +10,6 @@ pub mod FeedCases
 pub mod FeedNumbers
 pub mod OverBytes
 pub mod PartCases
-pub mod HeldFeed
 pub mod Feeding
 pub mod Feeds
 pub mod AnyCut

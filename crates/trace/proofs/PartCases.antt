@@ -1,6 +1,6 @@
 -- A part given over chip bytes, past each test; and by value, the chips read back.
 use Prim.Native.Nat.{ℕ}
-use mathlib.Core.Path.{◌≡◌, refl, sym, ap, ◌∙◌}
+use mathlib.Core.Path.{◌≡◌, refl, ap, ◌∙◌}
 use mathlib.Core.Bool.{false, ◌&&◌, true≢false}
 use mathlib.Core.List.{List}
 use lib.ListN.{length, take, drop}
@@ -40,9 +40,9 @@ module _ (chips ram part answers : List ℕ) (t : Progress) where
     unfolding part_in_place
     still_open e = rw (e, eq-eqb (length chips) 24 size)
 
-    pub not_taken : (n at : ℕ) → First (of_feed part_table (feed_in chips t) (length ram) (length part) (length answers)) n at
+    pub not_taken_lem : (n at : ℕ) → First (of_feed part_table (feed_in chips t) (length ram) (length part) (length answers)) n at
         → in_place (fed_in_place t n at) chips ram answers ≡ part_over_bytes chips (open_part (feed_in chips t) ram part answers)
-    not_taken n at first = rw (part-refused (feed_in chips t) ram part answers n at first) (rw (kept chips size))
+    not_taken_lem n at first = rw (part-refused (feed_in chips t) ram part answers n at first) (rw (kept chips size))
 
     pub part-run : NoneHolds (of_feed part_table (feed_in chips t) (length ram) (length part) (length answers))
         → (i : InPlace Tally) → i ≡ over_bytes chips (ended_bytes (panel_in chips ram) (joined_to t part) answers)

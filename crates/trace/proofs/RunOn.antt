@@ -16,7 +16,7 @@ use Rattle.sed1520.specs.Cycle.{Reply}
 use Rattle.panel.specs.Step.{chips_step, run_chips}
 use Rattle.panel.proofs.RecordSteps.{every-records-run}
 use Rattle.sed1520.specs.BytesRun.{with_ram, together}
-use Rattle.sed1520.specs.Records.{front, whole_records}
+use Rattle.sed1520.specs.Records.{whole_records}
 use Rattle.sed1520.specs.Replies.{compared_in, differing_in, tally, answers_left, InPlace, in_place}
 use Rattle.sed1520.specs.declared.bus.Record.{Record}
 use Rattle.sed1520.specs.declared.tally.Tally.{Tally}

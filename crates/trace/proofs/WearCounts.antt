@@ -1,17 +1,16 @@
 -- Wear counted on: one store more from place to place, and the stores of answers.
 use Prim.Native.Nat.{ℕ, ◌+◌, ◌<◌, ◌≤◌}
 use native.Mathlib.Omega.{arith}
-use mathlib.Core.Path.{◌≡◌, refl, sym, ap, ◌∙◌}
+use mathlib.Core.Path.{◌≡◌, refl, sym, ◌∙◌}
 use mathlib.Core.Bool.{and-false}
 use mathlib.Core.List.{List, [], ◌++◌}
 use mathlib.Core.Logic.{⊎_elim}
 use lib.Dec.{eqb, leb, ltb}
 use lib.ListN.{length, get_or, set, replicate, length-set, length-replicate, get_or-replicate, get_or-eq_default}
 use lib.Seq.{get_or-set_same, get_or-set_other}
-use borrow.Author.Tests.{eqb-true, eqb-false, eq-eqb, ne_eqb, le-ltb, ltb-true, ltb-false}
+use borrow.Author.Tests.{eqb-true, eqb-false, eq-eqb, le-ltb, ltb-true, ltb-false}
 use Rattle.basics.specs.Choice.{if}
 use Rattle.basics.specs.Counts.{sum_below, total, lies_in}
-use Rattle.basics.specs.Lists.{tabulated}
 use Rattle.basics.proofs.Counts.{lies-in-none, lies-last, total-tabulated}
 use Rattle.basics.proofs.Lists.{tabulated-is, tabulated-same, tabulated-length, tabulated-at}
 use Rattle.basics.proofs.Tests.{tested}

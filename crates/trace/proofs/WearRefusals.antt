@@ -1,5 +1,5 @@
 -- Calls that are lent wear by their tables: as without it, their numbers, and what a refusal leaves.
-use mathlib.Core.Path.{◌≡◌, refl, ap, ◌∙◌}
+use mathlib.Core.Path.{refl, ap, ◌∙◌}
 use Rattle.basics.proofs.Table.{first-refuses, table-as, exactly-when}
 use Rattle.panel.specs.Panel.{as_panel}
 use Rattle.trace.specs.Feed.{PartOutcome, joined_to, not_taken, took_part}

@@ -1,5 +1,5 @@
 -- What a call leaves in 640 counts: each of them, their sum, and zeros where no record is completed.
-use Prim.Native.Nat.{ℕ, ◌+◌, ◌<◌}
+use Prim.Native.Nat.{ℕ}
 use native.Mathlib.Omega.{arith}
 use mathlib.Core.Path.{◌≡◌, sym, ap, ◌∙◌}
 use mathlib.Core.Bool.{not}
@@ -10,17 +10,15 @@ use Rattle.basics.specs.Counts.{total}
 use Rattle.basics.specs.Run.{run_of}
 use Rattle.basics.specs.Table.{NoneHolds}
 use Rattle.basics.proofs.Table.{none-refuses}
-use Rattle.basics.proofs.Tests.{no_other}
 use Rattle.panel.specs.Panel.{Panel, as_panel, panel_run, Whole}
 use Rattle.sed1520.specs.declared.bus.Record.{Record}
 use Rattle.panel.specs.Trace.{trace_run}
 use Rattle.panel.specs.Stores.{writes_finding}
 use Rattle.panel.proofs.RecordStores.{all-stores}
 use Rattle.sed1520.specs.Records.{whole_records}
-use Rattle.sed1520.specs.Replies.{stores_to}
-use Rattle.trace.specs.Feed.{joined_to, completed_by, not_taken, took_part}
+use Rattle.trace.specs.Feed.{joined_to, completed_by, not_taken}
 use Rattle.trace.specs.Promises.{Replayable}
-use Rattle.trace.specs.Replay.{ended_bytes, refused_at}
+use Rattle.trace.specs.Replay.{refused_at}
 use Rattle.trace.specs.Wear.{stores_in, WithWear, with_wear, wear_of, replay_wear_table, replay_with_wear, part_replies, part_wear_table, part_with_wear}
 use Rattle.trace.specs.WearPromises.{WearCounted}
 use Rattle.trace.specs.declared.progress.Ending.TheVariants.{Open}

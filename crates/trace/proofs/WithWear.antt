@@ -1,7 +1,7 @@
 -- A replay and a part that are lent wear: without 640 counts they are refused; with them they are the replay and the part, and the wear is that of
 -- the inner function over the bytes of both chips.
 use Prim.Native.Nat.{ℕ}
-use mathlib.Core.Path.{◌≡◌, refl, sym, ap, ◌∙◌}
+use mathlib.Core.Path.{◌≡◌, refl, ap, ◌∙◌}
 use mathlib.Core.List.{List}
 use lib.ListN.{length}
 use borrow.Author.Tests.{eq-eqb, ne_eqb}
@@ -12,17 +12,16 @@ use Rattle.panel.specs.Panel.{Panel, as_panel}
 use Rattle.panel.specs.Trace.{trace_run}
 use Rattle.panel.proofs.TwoChips.{two-length, two-there}
 use Rattle.sed1520.specs.declared.registers.Chip.{Chip}
-use Rattle.trace.specs.Replay.{ReplayOutcome, refused_at, ended_bytes, replay_of}
+use Rattle.trace.specs.Replay.{refused_at, ended_bytes, replay_of}
 use Rattle.trace.specs.Feed.{as_feed, joined_to, part_table, unless_stopped, PartOutcome, not_taken, took_part, open_part, part_of}
-use Rattle.trace.specs.FeedInPlace.{feed_in}
-use Rattle.trace.specs.Wear.{stores_in, wear_of, WithWear, with_wear, replay_with_wear, part_replies, part_wear_table, part_with_wear}
+use Rattle.trace.specs.Wear.{wear_of, WithWear, with_wear, replay_with_wear, part_replies, part_wear_table, part_with_wear}
 use Rattle.trace.specs.Wear.{replay_wear, open_part_wear, part_wear}
 use Rattle.trace.specs.declared.progress.Ending.{Ending}
 use Rattle.trace.specs.declared.progress.Ending.TheVariants.{Open, Stopped}
 use Rattle.trace.specs.declared.progress.Progress.{Progress}
 use Rattle.trace.specs.declared.feed.Feed.{Feed}
 use Rattle.trace.proofs.FeedCases.{of_feed}
-use Rattle.trace.proofs.InPlace.{lines, same_lines, panel-there}
+use Rattle.trace.proofs.InPlace.{same_lines, panel-there}
 use Rattle.trace.proofs.ReplayNumbers.{table}
 
 -- an outcome and the wear left, each known

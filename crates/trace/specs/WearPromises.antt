@@ -1,6 +1,6 @@
 -- What is proved of wear beside the contracts (request C-16): all else is as without it; when it is refused and when it stays as it came; each count
 -- and their sum, taken from the trace; and that what a feed's parts leave adds up to what the replay leaves, at any cut.
-use Rattle.std.specs.Prelude.{ℕ, ◌<◌, ◌≡◌, false, List, [], ◌∷◌, map, length, get_or, replicate}
+use Rattle.std.specs.Prelude.{ℕ, ◌<◌, ◌≡◌, List, [], ◌∷◌, map, length, get_or, replicate}
 use Rattle.basics.specs.Counts.{total}
 use Rattle.basics.specs.Table.{First, NoneHolds, ExactlyWhen}
 use Rattle.panel.specs.Panel.{image_length, Panel, as_panel, Whole}

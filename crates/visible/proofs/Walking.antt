@@ -13,7 +13,7 @@ use Rattle.basics.specs.Choice.{if}
 use Rattle.basics.specs.Lists.{joined}
 use Rattle.basics.specs.Run.{Run, as_run, run_of}
 use Rattle.basics.proofs.Lists.{joined-next}
-use Rattle.basics.proofs.Run.{one_more, refused-next}
+use Rattle.basics.proofs.Run.{one_more as one_more_lem, refused-next}
 use Rattle.basics.proofs.Tests.{when}
 use Rattle.sed1520.specs.Cycle.{Reply}
 use Rattle.panel.specs.Panel.{Panel, as_panel, outcome_of, stepped, panel_step, panel_run, Whole}
@@ -141,7 +141,7 @@ module _ {p : Panel} {trace buffer : List ℕ} {left right : Chip} {ram entries 
       next-run : panel_run p (take (suc at) records) ≡ as_run 0 (upto.replies ++ (reply ∷ [])) (stepped panel bus)
       next-run =
           let records-then = rw here at (take-suc records at bus (omega (arith, all))) in
-          rw records-then (one_more panel_step p (take at records) upto.run bus (sym number_is ∙ h))
+          rw records-then (one_more_lem panel_step p (take at records) upto.run bus (sym number_is ∙ h))
 
       abbrev entry : Entry
       entry = as_entry at w.left_pixels w.right_pixels

@@ -1,0 +1,39 @@
+-- `repaint::sparing_page::put_changed_page` meets its contract: nothing, or the page and then the columns.
+use Rattle.std.proofs.Common.{arith, ℕ, [], ◌∷◌}
+use mathlib.Core.Path.{refl}
+use mathlib.Core.Bool.{Bool}
+use mathlib.Core.List.{flat_map}
+use Rattle.basics.proofs.Filling.{begun_first}
+use Rattle.sed1520.specs.Records.{records_bytes}
+use Rattle.frame.specs.Frame.{segments}
+use Rattle.repaint.specs.Repaint.{page_set}
+use Rattle.repaint.specs.Sparing.{differs, chosen_columns, chosen_page}
+use Rattle.repaint.proofs.Bytes.{answer-of, begun-put, begun-front}
+use Rattle.repaint.proofs.ChosenColumns.{some-counted, at_most_one, cycles-few, columns-length}
+use Rattle.repaint.proofs.NextColumn.{Next, next-is}
+use Rattle.repaint.proofs.sparing_page.put_changed_page.Goals as goal
+
+pub overflow_add-result : goal.overflow_add-result
+overflow_add-result c =
+    let at = c.args in
+    let test : ℕ → Bool = differs at.chip at.which at.ram.now at.picture.now at.band in
+    let many = answer-of c.put_columns.ensures in
+    omega (
+      arith,
+      many,
+      columns-length test at.chip at.which at.picture.now at.band segments,
+      cycles-few test segments,
+      at_most_one (test 60),
+    )
+
+pub returns : goal.returns
+unfolding chosen_page flat_map
+returns c =
+    let at = c.args in
+    let test : ℕ → Bool = differs at.chip at.which at.ram.now at.picture.now at.band in
+    let first : Next test 0 segments c.next_changed-first.result = next-is test 0 segments c.next_changed-first.ensures in
+    let set = page_set at.chip at.which at.band in
+    let rest = chosen_columns at.chip at.which at.picture.now at.band test 0 segments in
+    let one = begun_first at.output.now (records_bytes (set ∷ [])) refl c.put_page_set.ensures in
+    rw (some-counted test c.next_changed-first.result (omega arith) (first.found (omega arith)))
+    (begun-front (set ∷ rest) (begun-put (set ∷ []) rest one c.put_columns.ensures))
