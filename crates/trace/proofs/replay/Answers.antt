@@ -10,7 +10,7 @@ use Rattle.trace.proofs.replay.Goals as goal
 
 pub returns-then-wear-ne-IMAGE_BYTES : goal.returns-then-wear-ne-IMAGE_BYTES
 returns-then-wear-ne-IMAGE_BYTES c =
-    sym (wear-refused _ _ _ _ c.if-wear-ne-IMAGE_BYTES.true)
+    sym (wear-refused _ _ _ _ (λ size. omega arith))
 
 pub returns : goal.returns
 returns c =

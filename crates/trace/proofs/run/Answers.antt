@@ -36,31 +36,26 @@ overflow_add-at c =
     let few = went-few given.both_pass given.trace_in_bounds c.loop-at.invariant c.loop-at-test.true (e.ran, e.wear) in
     record { fits = omega (arith, few.place-few, given.trace_len_bound, c.loop-at-test.true) }
 
-pub returns-then-went-ne0-clause-ran : goal.returns-then-went-ne0-clause-ran
-returns-then-went-ne0-clause-ran c =
+pub returns-then-went-ne0 : goal.returns-then-went-ne0
+returns-then-went-ne0 c =
     let given = c.requires in
     let e = c.run_counting-went.ensures in
-    (stopped given.both_pass given.trace_in_bounds c.loop-at.invariant c.loop-at-test.true (e.ran, e.wear) c.if-went-ne0.true).0
-
-pub returns-then-went-ne0-clause-wear : goal.returns-then-went-ne0-clause-wear
-returns-then-went-ne0-clause-wear c =
-    let given = c.requires in
-    let e = c.run_counting-went.ensures in
-    (stopped given.both_pass given.trace_in_bounds c.loop-at.invariant c.loop-at-test.true (e.ran, e.wear) c.if-went-ne0.true).1
+    let whole = stopped given.both_pass given.trace_in_bounds c.loop-at.invariant c.loop-at-test.true (e.ran, e.wear) (λ done. omega arith) in
+    record { ran = whole.0; wear = whole.1 }
 
 pub loop-at-smaller : goal.loop-at-smaller
 loop-at-smaller c =
     let given = c.requires in
     let e = c.run_counting-went.ensures in
     let here = c.loop-at-test.true in
-    let some = some-ran given.both_pass given.trace_in_bounds c.loop-at.invariant here (e.ran, e.wear) c.if-went-ne0.false in
+    let some = some-ran given.both_pass given.trace_in_bounds c.loop-at.invariant here (e.ran, e.wear) (omega arith) in
     omega (arith, some, here)
 
 pub loop-at-preserved : goal.loop-at-preserved
 loop-at-preserved c =
     let given = c.requires in
     let e = c.run_counting-went.ensures in
-    goes_on given.both_pass given.trace_in_bounds c.loop-at.invariant c.loop-at-test.true (e.ran, e.wear) c.if-went-ne0.false
+    goes_on given.both_pass given.trace_in_bounds c.loop-at.invariant c.loop-at-test.true (e.ran, e.wear) (omega arith)
 
 pub returns-clause-ran : goal.returns-clause-ran
 returns-clause-ran c = (finished c.requires.both_pass c.requires.trace_in_bounds c.loop-at.invariant (omega arith)).0

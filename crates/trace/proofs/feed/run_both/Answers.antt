@@ -12,14 +12,14 @@ use Rattle.trace.proofs.OverBytes.{fits-behind, bytes_cut, bytes-both, worn-cut,
 use Rattle.trace.proofs.WearCounts.{worn-bound}
 use Rattle.trace.proofs.feed.run_both.Goals as goal
 
-pub returns-then-begun-ne0-clause-ran : goal.returns-then-begun-ne0-clause-ran
-returns-then-begun-ne0-clause-ran c =
-    bytes_cut c.requires.both_pass _ _ _ 1 c.requires.first_len c.run-begun.ensures.ran c.if-begun-ne0.true
-
-pub returns-then-begun-ne0-clause-wear : goal.returns-then-begun-ne0-clause-wear
-returns-then-begun-ne0-clause-wear c =
+pub returns-then-begun-ne0 : goal.returns-then-begun-ne0
+returns-then-begun-ne0 c =
+    let given = c.requires in
     let first = c.run-begun.ensures in
-    worn-cut c.requires.both_pass _ _ _ 1 c.requires.first_len first.ran c.if-begun-ne0.true _ first.wear
+    record {
+      ran = bytes_cut given.both_pass _ _ _ 1 given.first_len first.ran (λ done. omega arith);
+      wear = worn-cut given.both_pass _ _ _ 1 given.first_len first.ran (λ done. omega arith) _ first.wear;
+    }
 
 pub run-next-requires-clause-both_pass : goal.run-next-requires-clause-both_pass
 run-next-requires-clause-both_pass c = fits-behind c.requires.both_pass _ [] _ 1 c.requires.first_len c.run-begun.ensures.ran

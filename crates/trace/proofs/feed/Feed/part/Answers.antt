@@ -24,7 +24,7 @@ pub returns-then-wear-ne-IMAGE_BYTES : goal.returns-then-wear-ne-IMAGE_BYTES
 returns-then-wear-ne-IMAGE_BYTES c =
     let at = c.args in
     both_left (rw c.wrong_wear.ensures (not-given at.self at.ram.now at.answers.now at.self.progress.ending)) refl
-    ∙ sym (part-wear-refused at.self _ _ _ _ c.if-wear-ne-IMAGE_BYTES.true)
+    ∙ sym (part-wear-refused at.self _ _ _ _ (λ size. omega arith))
 
 pub returns : goal.returns
 returns c =
@@ -40,4 +40,4 @@ returns c =
     (went.ensures.wear
     ∙ ap (λ (chips : List ℕ). part_wear chips f.progress at.ram.now at.part.now at.answers.now at.wear.now) theirs
     ∙ part-wear-over-bytes f.left f.right f.progress _ _ _ _)
-    ∙ sym (part-with-wear f _ _ _ _ (omega (arith, c.if-wear-ne-IMAGE_BYTES.false)))
+    ∙ sym (part-with-wear f _ _ _ _ (omega arith))
