@@ -20,14 +20,14 @@ use Rattle.panel.specs.Panel.{as_panel}
 use Rattle.panel.proofs.TwoChips.{left-passes, right-passes}
 use Rattle.trace.specs.Replay.{ReplayOutcome, ended_bytes, sizes_wrong}
 use Rattle.sed1520.specs.Replies.{in_place}
-use Rattle.trace.specs.Feed.{begun, joined_to, completed_by, too_many, progress_wrong, feed_table, part_table, fed_with, open_of, took_part, close_of}
+use Rattle.trace.specs.Feed.{begun, joined_to, completed_by, too_many, progress_wrong, feed_table, part_table, fed_with, took_part, close_of}
 use Rattle.trace.specs.FeedInPlace.{feed_in, fed_in_place, part_in_place}
 use Rattle.trace.specs.FeedPromises.{refuses_part}
 use Rattle.trace.specs.declared.progress.Ending.TheVariants.{Open, Stopped}
 use Rattle.trace.specs.declared.progress.Progress.{Progress}
 use Rattle.trace.specs.declared.feed.Feed.{Feed}
 use Rattle.trace.proofs.FeedCases.{of_feed, state-two, part_right, part-refuses, part-taken, open-refused, closes, close-refused, close_passed}
-use Rattle.trace.proofs.PartCases.{still-stopped, still_open, not_taken}
+use Rattle.trace.proofs.PartCases.{still-stopped, still_open, not_taken_lem}
 use Rattle.trace.proofs.RunNumbers.{own-number, low-number}
 use Rattle.trace.proofs.StoppedFeed.{stopped-repeats}
 use Rattle.pedralume.specs.FeedBytes.{word_at, progress_bytes, marks_right, progress_in}
@@ -113,7 +113,7 @@ module _ (feed : List ℕ) (h : length feed ≡ 48) where
         let line = subst (λ (t : List Cause). First t n at) (sym lines) first in
         let e = is_open other in
         part_stays feed h n at (rw e (part-refuses read (length ram) (length part) (length answers) n at line)) ram part answers
-        (still_open _ ram part answers _ size e ∙ sym (not_taken _ ram part answers _ size n at line))
+        (still_open _ ram part answers _ size e ∙ sym (not_taken_lem _ ram part answers _ size n at line))
 
     close-call-refused : First (feed_bytes_table feed) n at → close_call feed ≡ result_of (feed_packed n at) feed
     close-call-refused first =

@@ -1,0 +1,12 @@
+-- `wear::text::put_page` meets its contract: "wear", two numbers, the counts and the end of the line.
+use Rattle.console.proofs.Puts.{put-more}
+use Rattle.wear.specs.Text.{page_line}
+use Rattle.wear.proofs.text.put_page.Goals as goal
+
+pub returns : goal.returns
+unfolding page_line
+returns c =
+    put-more c.put-bytes.ensures
+    (put-more c.put_next.ensures
+    (put-more c.put-next2.ensures
+    (put-more c.put-counts.ensures c.put_bytes.ensures)))
