@@ -1,5 +1,4 @@
 -- `vectors::agrees` meets its contract. The invariant: the cases so far have agreed and led to the chip and the RAM as they stand.
-use Prim.Native.Nat.{◌-◌}
 use native.Mathlib.Omega.{arith}
 use mathlib.Core.Path.{sym, ◌∙◌, refl}
 use mathlib.Core.List.{[]}

@@ -8,7 +8,7 @@ pub returns : goal.returns
 returns c =
     let text = listed c.args.trace.now c.fresh.ensures c.fresh-2.ensures c.replay-done.ensures
     c.put_wear-lines.ensures c.put_end.ensures in
-     record {
+    record {
       put = text;
       value = put_whole text (omega (arith, text-bound c.args.trace.now, c.requires));
     }

@@ -1,5 +1,4 @@
 -- `replay::text::put_lines` meets its contract. The invariant: the lines so far stand from the front on.
-use Prim.Native.Nat.{◌-◌}
 use borrow.Author.Rules.{rules}
 use Rattle.console.proofs.Puts.{no-piece, one-piece-more}
 use Rattle.replay.specs.Text.{line_at}

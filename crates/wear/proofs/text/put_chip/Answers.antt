@@ -1,5 +1,4 @@
 -- `wear::text::put_chip` meets its contract. The invariant: the lines of the pages so far are put.
-use Prim.Native.Nat.{◌-◌}
 use borrow.Author.Rules.{rules}
 use Rattle.console.proofs.Puts.{no-piece, one-piece-more}
 use Rattle.wear.specs.Text.{page_line}

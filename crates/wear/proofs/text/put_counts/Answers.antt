@@ -1,5 +1,4 @@
 -- `wear::text::put_counts` meets its contract. The invariant: the counts so far are put.
-use Prim.Native.Nat.{◌-◌}
 use borrow.Author.Rules.{rules}
 use Rattle.console.proofs.Puts.{no-piece, one-piece-more}
 use Rattle.wear.specs.Text.{next_count}
@@ -13,5 +12,5 @@ loop-column-init c =
 pub loop-column-preserved : goal.loop-column-preserved
 loop-column-preserved c =
     let start = c.args in
-    let next = rw c.count_at.ensures c c.put_next-next.ensures in
+    let next = rw c.count_at.ensures at c.put_next-next.ensures in
     (one-piece-more (next_count start.wear.now start.chip start.page) c.loop-column.column c.loop-column.invariant.0 next, search rules)

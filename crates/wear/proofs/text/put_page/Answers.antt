@@ -6,7 +6,7 @@ use Rattle.wear.proofs.text.put_page.Goals as goal
 pub returns : goal.returns
 unfolding page_line
 returns c =
-    put-more c.put-bytes.ensures
-    (put-more c.put_next.ensures
-    (put-more c.put-next2.ensures
-    (put-more c.put-counts.ensures c.put_bytes.ensures)))
+    put-more c.put_bytes-word.ensures
+    (put-more c.put_next-first.ensures
+    (put-more c.put_next-second.ensures
+    (put-more c.put_counts-counts.ensures c.put_bytes.ensures)))

@@ -6,4 +6,4 @@ use Rattle.wear.proofs.text.put_sum.Goals as goal
 pub returns : goal.returns
 unfolding sum_line
 returns c =
-    put-more c.put-bytes.ensures (put-more (rw c.sum_of.ensures at c.put_next.ensures) c.put_bytes.ensures)
+    put-more c.put_bytes-word.ensures (put-more (rw c.sum_of.ensures at c.put_next-sum.ensures) c.put_bytes.ensures)

@@ -1,8 +1,7 @@
 -- `wear::text::sum_of` meets its contract. The invariant: what is summed and what is left make the whole; no count is over 2^32 - 1, so the sum fits.
-use Prim.Native.Nat.{◌-◌, ◌<◌}
+use Prim.Native.Nat.{◌<◌}
 use native.Mathlib.Omega.{arith}
 use lib.ListN.{length}
-use Rattle.basics.specs.Counts.{total}
 use Rattle.wear.proofs.Sums.{total-from, total-past}
 use Rattle.wear.proofs.text.sum_of.Goals as goal
 
