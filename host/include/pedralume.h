@@ -80,7 +80,7 @@ extern "C" {
  * change. The number is for #if: 1.2.3 is 10203.
  */
 #define PEDRALUME_VERSION_MAJOR 1
-#define PEDRALUME_VERSION_MINOR 4
+#define PEDRALUME_VERSION_MINOR 3
 #define PEDRALUME_VERSION_PATCH 0
 
 #define PEDRALUME_VERSION_NUMBER \

@@ -175,5 +175,5 @@ pub unsafe extern "C" fn changes(
 #[cfg(as_pedralume)]
 #[unsafe(export_name = "pedralume_version")]
 pub extern "C" fn version() -> u64 {
-    10400
+    10300
 }

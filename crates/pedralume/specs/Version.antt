@@ -7,4 +7,4 @@ version_number major minor patch = 10000 * major + 100 * minor + patch
 
 -- the version of these calls
 abbrev pub version : ℕ
-version = version_number 1 4 0
+version = version_number 1 3 0

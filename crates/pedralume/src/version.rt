@@ -4,7 +4,7 @@ ghost use Rattle.pedralume.specs.Version.{version};
 
 const MAJOR: u64 = 1;
 
-const MINOR: u64 = 4;
+const MINOR: u64 = 3;
 
 const PATCH: u64 = 0;
 
