@@ -75,7 +75,7 @@ cursor_answers = wrote ∷ wrote ∷ reply 2 0 ∷ reply 1 0 ∷ write_reply 10 
 -- the examples P1 to P4, P6, P7, P10 and P11
 pub record ChipExamples : Type 0 where
   pub p1 : run_from_fresh at_last_column ≡ as_run 0 (wrote ∷ write_reply 79 ∷ []) (chip_over (with_column 80 fresh) (byte_set blank 0 79 0xA5))
-  pub p2 : run_from_fresh (at_last_column ++ (write 0x3_c ∷ [])) ≡ as_run 0 (wrote ∷ write_reply 79 ∷ wrote ∷ []) (run_from_fresh at_last_column).state
+  pub p2 : run_from_fresh (at_last_column ++ (write 0x3C ∷ [])) ≡ as_run 0 (wrote ∷ write_reply 79 ∷ wrote ∷ []) (run_from_fresh at_last_column).state
   pub p3 : (cycled start (command 100) ≡ refused start 14) × (decode_of 100 ≡ coded (record { opcode = Column; argument = 100 }))
   pub p3-ends : run_from_fresh (command 100 ∷ write 0xA5 ∷ []) ≡ as_run 14 [] start
   pub p4-fresh : run_from_fresh (status ∷ []) ≡ as_run 0 (reply 3 0x60 ∷ []) start

@@ -65,7 +65,7 @@ returns-in-192-to-223 c =
 
 pub returns-in_default : goal.returns-in_default
 returns-in_default c =
-    sym (none_between opcodes 0x80 0x9_f _ (omega arith) (omega arith) refl)
+    sym (none_between opcodes 0x80 0x9F _ (omega arith) (omega arith) refl)
 
 pub returns-in_default-2 : goal.returns-in_default-2
 returns-in_default-2 c =
