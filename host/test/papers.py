@@ -87,8 +87,8 @@ def try_pictures(text):
 
 FOLDERS = ["crates", "host", "tools", "sigrok", ".ci", "docs", "examples"]
 # What is cited and is none of the project's: the commission's papers, what the kit makes or prints, patterns, and the rest of a name.
-NO_PATHS = {"01-scope.md", "02-change-requests.md", "target/stamp/NAME", "*/proofs/Name.antt", "proofs/.../f/Proof.antt", "1/16", "1/32"}
-NO_NAMES = {"axioms=2", "_part", "_close"}
+NO_PATHS = {"01-scope.md", "02-change-requests.md", "*/proofs/Name.antt", "proofs/.../f", "1/16", "1/32"}
+NO_NAMES = {"axioms=3", "_part", "_close"}
 
 
 # A path has a folder or the ending of a file; in a name the dots of a pattern stand for its rest.
@@ -100,7 +100,7 @@ def known():
     paths, said = [".ci/run", "crates.txt"], set()
     for folder in FOLDERS:
         for place, folders, files in os.walk(os.path.join(ROOT, folder)):
-            folders[:] = [name for name in folders if name not in ("build", "__pycache__")]
+            folders[:] = [name for name in folders if name not in ("build", "out", "__pycache__")]
             for name in folders + files:
                 paths.append(os.path.relpath(os.path.join(place, name), ROOT))
                 said.add(os.path.splitext(name)[0])
