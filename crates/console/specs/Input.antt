@@ -1,5 +1,5 @@
--- What reading standard input came to. That the count lies within the buffer is all that is proved: the kit's contract of read says nothing of the
--- bytes.
+-- What reading the input came to. That the count lies within the buffer is all that is proved: of standard input no contract says which bytes
+-- come.
 use Rattle.std.specs.Prelude.{ℕ}
 use Rattle.console.specs.declared.input.Input.{Input}
 use Rattle.console.specs.declared.input.Input.TheVariants.{Read, Failed}
