@@ -323,7 +323,7 @@ check "wrong use: makes a folder" same "$(ls -d "$work/a b" host/usr host/stage 
 none() { check "$1: something is installed" [ ! -e "$work/none" ]; } # LABEL
 archive=../target/staticlib/libpedralume.a program=../target/bin/replay
 mv "host/$archive" "$work/archive"
-needed="$archive is missing: run \"rt staticlib pedralume\" in the project's folder"
+needed="$archive is missing: run \"tools/build pedralume\" in the project's folder"
 make_ install PREFIX="$work/none"; bad "no archive" "$needed"; none "no archive"
 make_ show; bad "no archive, show" "$needed"
 echo "no archive" >"host/$archive"
@@ -332,10 +332,10 @@ rm "host/$archive"; mkdir "host/$archive"
 make_ install PREFIX="$work/none"; check "an archive that is a folder: status $status" [ "$status" -ne 0 ]; none "an archive that is a folder"
 rmdir "host/$archive"; mv "$work/archive" "host/$archive"
 mv "host/$program" "$work/program"
-make_ install PREFIX="$work/none"; bad "no program" "$program is missing: run \"rt check replay\" in the project's folder"; none "no program"
+make_ install PREFIX="$work/none"; bad "no program" "$program is missing: run \"tools/build replay\" in the project's folder"; none "no program"
 mv "$work/program" "host/$program"
 mv target/bin/wear "$work/program"
-make_ install PREFIX="$work/none"; bad "no wear" "../target/bin/wear is missing: run \"rt check wear\" in the project's folder"; none "no wear"
+make_ install PREFIX="$work/none"; bad "no wear" "../target/bin/wear is missing: run \"tools/build wear\" in the project's folder"; none "no wear"
 mv "$work/program" target/bin/wear
 mv host/man/pedralume.3 "$work/page"
 make_ install PREFIX="$work/none"; bad "no page" "install: man/pedralume.3: cannot be read"; none "no page"

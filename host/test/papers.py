@@ -100,7 +100,7 @@ def known():
     paths, said = [".ci/run", "crates.txt"], set()
     for folder in FOLDERS:
         for place, folders, files in os.walk(os.path.join(ROOT, folder)):
-            folders[:] = [name for name in folders if name not in ("build", "__pycache__")]
+            folders[:] = [name for name in folders if name not in ("build", "out", "__pycache__")]
             for name in folders + files:
                 paths.append(os.path.relpath(os.path.join(place, name), ROOT))
                 said.add(os.path.splitext(name)[0])
