@@ -239,7 +239,10 @@ for program in $programs; do
     check "pedralume-$program --foo: says '$(cat "$work/err")'" same "$(cat "$work/err")" \
         "pedralume-$program: unknown option \"--foo\"; see pedralume-$program --help"
     run "$prefix/bin/pedralume-$program" --help; good "pedralume-$program --help"
-    check "pedralume-$program --help: names" same "$(sed -n '/^$/q; s/^Usage: //; s/^ *\([^ ]*\) .*/\1/p' "$work/out" | sort -u)" "pedralume-$program"
+    check "pedralume-$program --help: names" same "$(sed -n '1s/ \[.*//p; 2s/ --.*//p' "$work/out" | paste -sd '|')" \
+        "Usage: pedralume-$program|       pedralume-$program"
+    check "pedralume-$program --help: all names" same "$(sed -n '/^$/q; s/^Usage: //; s/^ *\([^ ]*\) .*/\1/p' "$work/out" | sort -u)" \
+        "pedralume-$program"
 done
 
 # ---- the man pages ----
