@@ -360,7 +360,9 @@ check "the example of pedralume-text.1" same "$(od -An -tx1 "$work/two.trace" | 
 
 # ---- what is built is what the sources say, and an earlier version does not stay ----
 
-mkdir crates
+mkdir -p crates/one/out
+touch -d tomorrow crates/one/out/libone.a crates/one/out crates/one
+make_ install PREFIX="$prefix"; good "what rt makes newer"
 touch -d tomorrow crates/source
 make_ install PREFIX="$work/late"; bad "an archive older than the sources" \
     "install: ../target/staticlib/libpedralume.a: is older than the sources; run ./show --version, which builds it, in the project's folder"

@@ -199,6 +199,8 @@ run ./show; ended "show with no file" 2 'show: no file for "TRACE"; see show --h
 ./show examples/name.trace >&- 2>"$work/err"
 status=$?; ended "show, closed output" 1 "standard output: cannot be written: Bad file descriptor"
 
+touch crates/frame/out/made crates/frame/out crates/frame
+run ./show examples/name.trace; shown "show, newer crates/frame/out" ""
 rt_is "touch out/libpedralume.a"
 for source in crates.txt crates/frame/src/lib.rt crates/sed1520/specs/Chip.antt; do
     touch "$source"
