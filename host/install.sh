@@ -77,8 +77,9 @@ readable() { # MODE SOURCE PLACE
     esac
 }
 no_folder() { [ ! -d "$DESTDIR$2" ] || fail "$DESTDIR$2: is a directory"; } # TEXT PLACE
-as_the_sources() { # FILE COMMAND: the file is not older than what it is made from, where that is there
-    [ -z "$(find ../crates ../crates.txt -newer "$1" 2>/dev/null | head -n 1)" ] ||
+as_the_sources() { # FILE COMMAND: the file is not older than what it is made from, where that is there; crates/NAME/out is what rt makes
+    [ -z "$(find ../crates ../crates.txt -path '../crates/*/out' ! -path '../crates/*/*/out' -prune -o \
+        -type d ! -path '../crates/*/*' -o -newer "$1" -print 2>/dev/null | head -n 1)" ] ||
         fail "$1: is older than the sources; run $2 in the project's folder"
 }
 put_file() { # MODE SOURCE PLACE

@@ -239,7 +239,10 @@ for program in $programs; do
     check "pedralume-$program --foo: says '$(cat "$work/err")'" same "$(cat "$work/err")" \
         "pedralume-$program: unknown option \"--foo\"; see pedralume-$program --help"
     run "$prefix/bin/pedralume-$program" --help; good "pedralume-$program --help"
-    check "pedralume-$program --help: names" same "$(sed -n '/^$/q; s/^Usage: //; s/^ *\([^ ]*\) .*/\1/p' "$work/out" | sort -u)" "pedralume-$program"
+    check "pedralume-$program --help: names" same "$(sed -n '1s/ \[.*//p; 2s/ --.*//p' "$work/out" | paste -sd '|')" \
+        "Usage: pedralume-$program|       pedralume-$program"
+    check "pedralume-$program --help: all names" same "$(sed -n '/^$/q; s/^Usage: //; s/^ *\([^ ]*\) .*/\1/p' "$work/out" | sort -u)" \
+        "pedralume-$program"
 done
 
 # ---- the man pages ----
@@ -323,7 +326,7 @@ check "wrong use: makes a folder" same "$(ls -d "$work/a b" host/usr host/stage 
 none() { check "$1: something is installed" [ ! -e "$work/none" ]; } # LABEL
 archive=../target/staticlib/libpedralume.a program=../target/bin/replay
 mv "host/$archive" "$work/archive"
-needed="$archive is missing: run \"rt staticlib pedralume\" in the project's folder"
+needed="$archive is missing: run \"tools/build pedralume\" in the project's folder"
 make_ install PREFIX="$work/none"; bad "no archive" "$needed"; none "no archive"
 make_ show; bad "no archive, show" "$needed"
 echo "no archive" >"host/$archive"
@@ -332,10 +335,10 @@ rm "host/$archive"; mkdir "host/$archive"
 make_ install PREFIX="$work/none"; check "an archive that is a folder: status $status" [ "$status" -ne 0 ]; none "an archive that is a folder"
 rmdir "host/$archive"; mv "$work/archive" "host/$archive"
 mv "host/$program" "$work/program"
-make_ install PREFIX="$work/none"; bad "no program" "$program is missing: run \"rt check replay\" in the project's folder"; none "no program"
+make_ install PREFIX="$work/none"; bad "no program" "$program is missing: run \"tools/build replay\" in the project's folder"; none "no program"
 mv "$work/program" "host/$program"
 mv target/bin/wear "$work/program"
-make_ install PREFIX="$work/none"; bad "no wear" "../target/bin/wear is missing: run \"rt check wear\" in the project's folder"; none "no wear"
+make_ install PREFIX="$work/none"; bad "no wear" "../target/bin/wear is missing: run \"tools/build wear\" in the project's folder"; none "no wear"
 mv "$work/program" target/bin/wear
 mv host/man/pedralume.3 "$work/page"
 make_ install PREFIX="$work/none"; bad "no page" "install: man/pedralume.3: cannot be read"; none "no page"
@@ -357,7 +360,9 @@ check "the example of pedralume-text.1" same "$(od -An -tx1 "$work/two.trace" | 
 
 # ---- what is built is what the sources say, and an earlier version does not stay ----
 
-mkdir crates
+mkdir -p crates/one/out
+touch -d tomorrow crates/one/out/libone.a crates/one/out crates/one
+make_ install PREFIX="$prefix"; good "what rt makes newer"
 touch -d tomorrow crates/source
 make_ install PREFIX="$work/late"; bad "an archive older than the sources" \
     "install: ../target/staticlib/libpedralume.a: is older than the sources; run ./show --version, which builds it, in the project's folder"

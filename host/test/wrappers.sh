@@ -1,7 +1,7 @@
 #!/bin/sh
 # Runs ./replay, ./wear, ./show and ./text in a copy of the project, with what is built in it: status, words, and that they run what the sources say
 # now.
-# Usage: wrappers.sh, from any folder. rt is the real one where nothing else is said; each call of it is noted.
+# Usage: wrappers.sh, from any folder. rt is the real one where nothing else is said; each call of it is noted, with the crate in whose folder it is.
 set -u
 . "$(dirname "$0")/checks.sh"
 project=$(readlink -f "$(dirname "$0")/../..")
@@ -26,8 +26,8 @@ ended() { # LABEL STATUS WORDS: how what was run ended, and the last line that i
 }
 printed() { check "$1: prints something else" cmp -s "$work/out" "$2"; } # LABEL FILE
 called() { check "$1: calls rt with '$(cat "$calls")'" same "$(cat "$calls")" "$2"; } # LABEL CALLS
-rt_is() { # COMMANDS: what rt does, after it has noted the call
-    printf '#!/bin/sh\necho "$*" >>"$calls"\n%s\n' "$1" >"$work/bin/rt"
+rt_is() { # COMMANDS: what rt does, after it has noted the call, in the crate's folder
+    printf '#!/bin/sh\necho "${PWD##*/} $*" >>"$calls"\n%s\n' "$1" >"$work/bin/rt"
     chmod +x "$work/bin/rt"
 }
 # shellcheck disable=SC2016
@@ -46,7 +46,7 @@ host/build/show examples/name.trace --repaint examples/name.pbm --changes >"$wor
 
 # ---- replay and wear: good uses ----
 
-replayed() { ended "$name, $1" 0 ""; printed "$name, $1" "$work/$name.listed"; called "$name, $1" "check $name"; } # LABEL
+replayed() { ended "$name, $1" 0 ""; printed "$name, $1" "$work/$name.listed"; called "$name, $1" "$name run"; } # LABEL
 for name in replay wear; do
     run ./$name examples/listing.trace; replayed "a file"
     run ./$name <examples/listing.trace; replayed "standard input"
@@ -147,29 +147,32 @@ for name in replay wear; do
     status=$?; ended "$name, a full disk" 1 "$name: standard output cannot be written"
     { sleep 0.3; ./$name "$work/t" 2>"$work/err"; echo $? >"$work/status"; } | true
     status=$(cat "$work/status"); ended "$name, a closed pipe" 1 "$name: standard output cannot be written"
+    rt_is : # it leaves what is built as it is
     for text in '' 'end 0 9 2 1' '0 0 00\nend 0 9 2\n' 'sum 0\n'; do
-        printf '#!/bin/sh\nprintf "%s"\n' "$text" >target/bin/$name
+        printf '#!/bin/sh\nprintf "%s"\n' "$text" >crates/$name/out/$name
         run ./$name examples/listing.trace; ended "$name, a program that prints '$text'" 1 "$name: no whole end line: the trace could not be read"
     done
-    cp "$work/$name" target/bin/$name
+    cp "$work/$name" crates/$name/out/$name
+    rt_is "$real"
 done
 
 # ---- replay and wear: what is run is built from the sources as they are ----
 
 for name in replay wear; do
     cp -p crates/$name/src/main.rt "$work/main.rt"
-    cp -p target/stamp/$name "$work/stamp"
     echo "no Rattle" >>crates/$name/src/main.rt
     run ./$name examples/listing.trace; ended "$name, a broken source" 1 "$name: the program cannot be built"; printed "$name, a broken source" /dev/null
     cp -p "$work/main.rt" crates/$name/src/main.rt
-    cp -p "$work/stamp" target/stamp/$name
     run ./$name examples/listing.trace; replayed "the source as it was"
-    rm target/bin/$name
-    rt_is "[ ! -e target/stamp/$name ] && cp ../$name target/bin/$name"
+    rm target/bin/$name crates/$name/out/$name
     run ./$name examples/listing.trace; ended "$name, nothing built" 0 "$name: proving and building, two to four minutes"
     printed "$name, nothing built" "$work/$name.listed"
-    cp -p "$work/stamp" target/stamp/$name
+    rt_is "sleep 0.1; touch src/main.rt"
+    run ./$name examples/listing.trace; replayed "a source changed meanwhile"
     rt_is "$real"
+    run ./$name examples/listing.trace; ended "$name after it" 0 "$name: proving and building, two to four minutes"
+    run ./$name examples/listing.trace; replayed "built since"
+    cp -p "$work/main.rt" crates/$name/src/main.rt
 done
 
 # ---- show: as it is, and built anew where a source is newer ----
@@ -196,20 +199,22 @@ run ./show; ended "show with no file" 2 'show: no file for "TRACE"; see show --h
 ./show examples/name.trace >&- 2>"$work/err"
 status=$?; ended "show, closed output" 1 "standard output: cannot be written: Bad file descriptor"
 
-rt_is "touch $archive"
+touch crates/frame/out/made crates/frame/out crates/frame
+run ./show examples/name.trace; shown "show, newer crates/frame/out" ""
+rt_is "touch out/libpedralume.a"
 for source in crates.txt crates/frame/src/lib.rt crates/sed1520/specs/Chip.antt; do
     touch "$source"
-    run ./show examples/name.trace; shown "show, newer $source" "staticlib pedralume"
+    run ./show examples/name.trace; shown "show, newer $source" "pedralume lib"
     run ./show examples/name.trace; shown "show after that" ""
 done
 touch crates.txt
-rt_is "cat >/dev/null; touch $archive"
+rt_is "cat >/dev/null; touch out/libpedralume.a"
 run ./show --live <examples/name.trace; ended "show --live, built first" 0 "show: proving and building, two to four minutes"
 printed "show --live, built first" "$work/live"
-rt_is "touch $archive; sleep 0.1; touch crates/frame/src/lib.rt; sleep 0.1; touch $archive"
+rt_is "touch out/libpedralume.a; sleep 0.1; touch ../frame/src/lib.rt; sleep 0.1; touch out/libpedralume.a"
 touch crates.txt
-run ./show examples/name.trace; shown "show, a source changed meanwhile" "staticlib pedralume"
-run ./show examples/name.trace; shown "show after it" "staticlib pedralume"
+run ./show examples/name.trace; shown "show, a source changed meanwhile" "pedralume lib"
+run ./show examples/name.trace; shown "show after it" "pedralume lib"
 rt_is "$real"
 echo "no Rattle" >>crates/pedralume/src/lib.rt
 run ./show examples/name.trace; ended "show, a broken source" 1 "show: the program cannot be built"; printed "show, a broken source" /dev/null
@@ -243,14 +248,14 @@ both() { # LABEL COMMAND...: runs it twice at once
 }
 two_shows() { # LABEL
     rm -rf host/build "$archive"
-    rt_is "head -c 1000 ../archive >$archive; sleep 0.5; cp ../archive $archive"
-    both "$1" ./show examples/name.trace; printed "$1" "$work/shown"; called "$1" "staticlib pedralume"
+    rt_is "head -c 1000 ../../../archive >out/libpedralume.a; sleep 0.5; cp ../../../archive out/libpedralume.a"
+    both "$1" ./show examples/name.trace; printed "$1" "$work/shown"; called "$1" "pedralume lib"
 }
 two_replays() { # LABEL: of wear too
     for name in replay wear; do
-        rm target/bin/$name
-        rt_is "program=target/bin/$name
-            [ -e \$program ] || { head -c 1000 ../$name >\$program; sleep 0.5; cp ../$name \$program; chmod +x \$program; }"
+        rm target/bin/$name crates/$name/out/$name
+        rt_is "program=out/$name built=../../../$name
+            [ -e \$program ] || { head -c 1000 \$built >\$program; sleep 0.5; cp \$built \$program; chmod +x \$program; }"
         both "$1, $name" ./$name examples/listing.trace; printed "$1, $name" "$work/$name.listed"
     done
 }
