@@ -1,5 +1,6 @@
 pub mod Tests
 pub mod Table
+pub mod Refusals
 pub mod Parts
 pub mod Halves
 pub mod Lists

@@ -6,8 +6,8 @@ use mathlib.Core.List.{List, [], ◌∷◌, ◌++◌}
 use mathlib.Core.Logic.{◌⊎◌, inl, inr, ⊎_elim}
 use Rattle.basics.specs.Choice.{if}
 use Rattle.basics.specs.Table.{Cause, unless_refused, verdict_by, First, NoneHolds, ExactlyWhen}
-use Rattle.basics.specs.Verdict.{verdict, Result, result_of}
-use Rattle.basics.specs.declared.verdict.Verdict.{Verdict}
+use Rattle.basics.specs.Verdict.{verdict, CallResult, result_of}
+use Rattle.basics.specs.Verdict.{Verdict}
 use Rattle.basics.proofs.Tests.{tested, when, when-both, choice-both}
 
 module _ {A : Type 0} (refuse : ℕ → ℕ → A) (done : A) where
@@ -121,28 +121,28 @@ module _ (table : List Cause) (v : Verdict) (at : ℕ) (e : v ≡ verdict_by tab
   passing-table numbered zero = done-passes (exactly-when table (verdict 0 at)) numbered (rw e at zero)
 
 -- a call that gives back a number and its place, and leaves what it was lent as it came where it refuses
-module _ {L : Type 0} (table : List Cause) (kept : L) (done : Result Verdict L) where
+module _ {L : Type 0} (table : List Cause) (kept : L) (done : CallResult Verdict L) where
   -- what such a call comes to
-  abbrev call : Result Verdict L
+  abbrev call : CallResult Verdict L
   call = unless_refused table (λ n at. result_of (verdict n at) kept) done
 
   -- its numbers, exactly when their lines say so
   pub call-exactly : ExactlyWhen table done.answer call.answer
   call-exactly =
-      rw (table-as (λ (o : Result Verdict L). o.answer) table {refuse = λ n at. result_of (verdict n at) kept} {done = done}
+      rw (table-as (λ (o : CallResult Verdict L). o.answer) table {refuse = λ n at. result_of (verdict n at) kept} {done = done}
       {refused = verdict} {did = done.answer} (λ n at. refl) refl)
       (exactly-when table done.answer)
 
   -- what holds of the place of each line, and of the place where all is done, holds of its place
   pub call-place : (P : ℕ → Type 0) → EachLine (λ n at. P at) table → (NoneHolds table → P done.answer.place) → P call.answer.place
   call-place P each last =
-      each_line (λ n at. result_of (verdict n at) kept) done (λ (o : Result Verdict L). P o.answer.place) table
+      each_line (λ n at. result_of (verdict n at) kept) done (λ (o : CallResult Verdict L). P o.answer.place) table
       (of-first (λ n at. P at) table each) last
 
   -- where it refuses, it leaves what it was lent
   pub call-keeps : done.answer.number ≡ 0 → (call.answer.number ≡ 0 → ⊥) → call.lent ≡ kept
   call-keeps zero =
-      each_line (λ n at. result_of (verdict n at) kept) done (λ (o : Result Verdict L). (o.answer.number ≡ 0 → ⊥) → o.lent ≡ kept) table
+      each_line (λ n at. result_of (verdict n at) kept) done (λ (o : CallResult Verdict L). (o.answer.number ≡ 0 → ⊥) → o.lent ≡ kept) table
       (λ n at first refused. refl) (λ _ refused. absurd (refused zero))
 
 -- a table of some lines and more lines behind them

@@ -7,4 +7,5 @@ pub mod Lists
 pub mod Run
 pub mod RunByKey
 pub mod Verdict
+pub mod Refusals
 pub mod Table

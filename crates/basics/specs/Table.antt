@@ -1,8 +1,7 @@
 -- The numbers of a call as a table: causes in the order in which they are checked. The first that holds gives its number and its place.
 use Rattle.std.specs.Prelude.{ℕ, ◌≡◌, Bool, true, false, List, [], ◌∷◌, ◌⊎◌}
 use Rattle.basics.specs.Choice.{if}
-use Rattle.basics.specs.Verdict.{verdict}
-use Rattle.basics.specs.declared.verdict.Verdict.{Verdict}
+use Rattle.basics.specs.Verdict.{Verdict, verdict}
 
 -- a line of a table: a number, its place, and whether the cause holds
 pub record Cause : Type 0 where

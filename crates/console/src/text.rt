@@ -19,10 +19,8 @@ pub fn put_bytes(out: &mut [u8], at: usize, bytes: &[u8]) -> usize
     ensures { Put out.old out.new at result bytes.now }
 {
     let mut next = at;
-    let mut index = 0;
-    while index < bytes.len() {
-        next = put_byte(out, next, bytes[index]);
-        index = index + 1;
+    for &byte in bytes {
+        next = put_byte(out, next, byte);
     }
     next
 }

@@ -9,8 +9,8 @@ use lib.ListN.{length}
 use borrow.Author.Rules.{rules}
 use borrow.Author.Tests.{eq-eqb}
 use Rattle.basics.specs.Table.{Cause}
-use Rattle.basics.specs.Verdict.{verdict, Result, result_of}
-use Rattle.basics.specs.declared.verdict.Verdict.{Verdict}
+use Rattle.basics.specs.Verdict.{verdict, CallResult, result_of}
+use Rattle.basics.specs.Verdict.{Verdict}
 use Rattle.basics.proofs.Tests.{neither, no_other}
 use Rattle.sed1520.specs.Chip.{out_of_range}
 use Rattle.panel.specs.Panel.{Panel}
@@ -34,7 +34,7 @@ abbrev table : Panel → List ℕ → List Cause
 table p buffer = frame_table (out_of_range p.left) (out_of_range p.right) (length p.ram) (length buffer)
 
 -- what is given where no line holds
-abbrev given : Panel → Result Verdict (List ℕ)
+abbrev pub given : Panel → CallResult Verdict (List ℕ)
 given p = result_of (verdict 0 frame_length) (frame_of p)
 
 pub frame-numbers : FrameNumbers

@@ -18,7 +18,7 @@ use Rattle.sed1520.specs.declared.registers.Chip.{Chip}
 use Rattle.sed1520.specs.Laws.{Fit}
 use Rattle.frame.specs.Frame.{segments, ram_column, line_bit, pixel, packed_pixels, segment_rows, segment_table, segment_pixels}
 use Rattle.frame.specs.Laws.{SegmentNumbers}
-use Rattle.frame.specs.declared.segment.Segment.{Segment}
+use Rattle.frame.specs.Frame.{Segment}
 use Rattle.frame.proofs.Packing.{packed-same, packed-bits, packed-bit, wide-upper, wide-lower}
 
 -- eight pixels, and those behind them

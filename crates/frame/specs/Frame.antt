@@ -1,16 +1,18 @@
 -- The frame: what the 122 by 32 panel (document 01: the glass) shows, each half driven by its own chip.
 use Rattle.std.specs.Prelude.{ℕ, zero, suc, ◌+◌, ◌-◌, ◌*◌, ◌/◌, ◌%◌, ◌^◌, Bool, not, ◌&&◌, ◌||◌, List, [], ◌∷◌, ◌++◌, leb, eqb, length}
+use Rattle.std.specs.Prelude.{Result, Ok, Err}
 use Rattle.basics.specs.Choice.{if}
 use Rattle.basics.specs.Halves.{part_start}
 use Rattle.basics.specs.Lists.{joined, tabulated}
+use Rattle.basics.specs.Refusals.{number_of}
 use Rattle.basics.specs.Table.{Cause, cause, left_then_right, unless_refused}
-use Rattle.basics.specs.Verdict.{verdict, Result, result_of}
-use Rattle.basics.specs.declared.verdict.Verdict.{Verdict}
+use Rattle.basics.specs.Verdict.{verdict, CallResult, result_of}
+use Rattle.basics.specs.Verdict.{Verdict}
+use Rattle.basics.specs.declared.refusal.Refusal.{Refusal}
 use Rattle.sed1520.specs.Chip.{out_of_range}
 use Rattle.sed1520.specs.Memory.{ram_length, byte_at}
 use Rattle.sed1520.specs.declared.registers.Chip.{Chip}
 use Rattle.panel.specs.Panel.{image_length, Panel, ram_at}
-use Rattle.frame.specs.declared.segment.Segment.{Segment}
 
 -- the segments that a chip drives
 abbrev pub segments : ℕ
@@ -57,7 +59,17 @@ segment_rows c ram n = packed_pixels (pixel c ram n) 0 32
 abbrev pub segment_table : Chip → List ℕ → ℕ → List Cause
 segment_table c ram n = cause 1 0 (not (eqb (length ram) ram_length) || leb segments n) ∷ cause 2 0 (out_of_range c) ∷ []
 
--- a segment asked alone: its number, and its 32 pixels, which are 0 where it is refused
+-- what a segment asked alone is given: a number, and 32 pixels, which are 0 where it is refused
+pub record Segment : Type 0 where
+  pub number : ℕ
+  pub pixels : ℕ
+
+-- the number and the pixels that stand for what is given back of a segment
+abbrev pub segment_of : Result ℕ Refusal → Segment
+segment_of (Ok pixels) = record { number = 0; pixels = pixels }
+segment_of (Err r) = record { number = number_of r; pixels = 0 }
+
+-- a segment asked alone: its number, and its 32 pixels, row 0 lowest
 unfoldable pub segment_pixels : Chip → List ℕ → ℕ → Segment
 segment_pixels c ram n =
     unless_refused (segment_table c ram n) (λ number at. record { number = number; pixels = 0 }) (record { number = 0; pixels = segment_rows c ram n })
@@ -87,7 +99,7 @@ abbrev pub frame_table : Bool → Bool → ℕ → ℕ → List Cause
 frame_table left right ram frame = cause 1 0 (frame_sizes_wrong ram frame) ∷ left_then_right 2 left right []
 
 -- the frame's call: numbers 1 and 2, which leave the buffer as it came, else the frame in the buffer, with its length as place
-unfoldable pub framed : Panel → List ℕ → Result Verdict (List ℕ)
+unfoldable pub framed : Panel → List ℕ → CallResult Verdict (List ℕ)
 framed p buffer =
     unless_refused (frame_table (out_of_range p.left) (out_of_range p.right) (length p.ram) (length buffer))
     (λ n at. result_of (verdict n at) buffer) (result_of (verdict 0 frame_length) (frame_of p))

@@ -11,11 +11,13 @@ ghost use Rattle.frame.specs.Frame.{frame_length, ram_column, line_bit, packed_p
 ghost use Rattle.frame.specs.Frame.{frame_of, frame_sizes_wrong, framed};
 ghost use Rattle.sed1520.specs.Chip.{column_stop};
 ghost use Rattle.sed1520.specs.Laws.{Fit};
+ghost use Rattle.basics.specs.Refusals.{verdict_of};
 ghost use Rattle.basics.specs.Verdict.{result_of};
 ghost use Rattle.panel.specs.Panel.{as_panel, Whole};
 
-use basics::verdict::Verdict;
-use panel::chips::IMAGE_BYTES;
+use basics::refusal::Refusal;
+use basics::verdict::{Refused, Verdict};
+use panel::chips::{Chips, IMAGE_BYTES};
 use sed1520::memory::index;
 use sed1520::registers::Chip;
 
@@ -55,7 +57,7 @@ fn lines_from(ram: &[u8], column: usize, line: usize) -> u8
 fn band_dark(chip: Chip, r: usize) -> bool
     ensures { result ≡ (not chip.duty_32 && leb 2 r) }
 {
-    if chip.duty_32 { false } else { 2 <= r }
+    !chip.duty_32 && r >= 2
 }
 
 // The byte of a segment in band r.
@@ -85,27 +87,24 @@ fn fill_half(chip: Chip, ram: &[u8], r: usize, half: &mut [u8])
     requires half_len_bound { length half.old ≤ column_stop }
     ensures { half.new ≡ half_band (length half.old) chip ram.now r }
 {
-    let mut n = 0;
-    while n < half.len() {
-        half[n] = segment_byte(chip, ram, n, r);
-        n = n + 1;
+    for (n, byte) in half.iter_mut().enumerate() {
+        *byte = segment_byte(chip, ram, n, r);
     }
 }
 
 // The frame of chips in range, band by band: the left half, then the right one.
-fn fill(left: Chip, right: Chip, ram: &[u8], frame: &mut [u8])
-    requires whole { Whole (as_panel left right ram.now) }
+fn fill(chips: Chips, ram: &[u8], frame: &mut [u8])
+    requires whole { Whole (as_panel chips.left chips.right ram.now) }
     requires frame_len { length frame.old ≡ frame_length }
-    ensures { frame.new ≡ frame_of (as_panel left right ram.now) }
+    ensures { frame.new ≡ frame_of (as_panel chips.left chips.right ram.now) }
 {
-    let mut r = 0;
-    while r < 4 {
+    let Chips { left, right } = chips;
+    for r in 0..4 {
         let at = Chip::PANEL_WIDTH * r;
         let middle = at + Chip::SEGMENTS;
         let end = middle + Chip::SEGMENTS;
         fill_half(left, &ram[0..Chip::RAM_WIDTH], r, &mut frame[at..middle]);
         fill_half(right, &ram[Chip::RAM_WIDTH..], r, &mut frame[middle..end]);
-        r = r + 1;
     }
 }
 
@@ -114,25 +113,18 @@ fn fill(left: Chip, right: Chip, ram: &[u8], frame: &mut [u8])
 fn sizes_wrong(ram: usize, frame: usize) -> bool
     ensures { result ≡ frame_sizes_wrong ram frame }
 {
-    if ram != IMAGE_BYTES {
-        return true;
-    }
-    frame != FRAME_BYTES
+    ram != IMAGE_BYTES || frame != FRAME_BYTES
 }
 
 // The frame that two chips and their image show, into a buffer of 488 bytes.
-pub fn frame(left: Chip, right: Chip, ram: &[u8], frame: &mut [u8]) -> Verdict
-    ensures { result_of result frame.new ≡ framed (as_panel left right ram.now) frame.old }
+pub fn frame(chips: Chips, ram: &[u8], frame: &mut [u8]) -> Verdict
+    ensures { result_of (verdict_of result) frame.new
+        ≡ framed (as_panel chips.left chips.right ram.now) frame.old }
 {
     if sizes_wrong(ram.len(), frame.len()) {
-        return Verdict::new(1, 0);
+        return Err(Refused::new(Refusal::WrongSize, 0));
     }
-    if !left.in_range() {
-        return Verdict::new(2, 0);
-    }
-    if !right.in_range() {
-        return Verdict::new(2, 1);
-    }
-    fill(left, right, ram, frame);
-    Verdict::new(0, FRAME_BYTES as u64)
+    chips.check_range()?;
+    fill(chips, ram, frame);
+    Ok(FRAME_BYTES as u64)
 }

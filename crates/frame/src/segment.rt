@@ -1,22 +1,14 @@
 // What one segment shows, all its rows at once.
 ghost use Rattle.std.specs.Prelude.{◌+◌, ◌*◌, ◌/◌, ◌%◌, ◌^◌, ◌<◌, ◌≡◌, length};
 ghost use Rattle.sed1520.specs.Memory.{ram_length};
-ghost use Rattle.frame.specs.Frame.{segments, line_bit, packed_pixels, segment_rows, segment_pixels};
+ghost use Rattle.frame.specs.Frame.{segments, line_bit, packed_pixels, segment_rows, segment_of, segment_pixels};
 ghost use Rattle.sed1520.specs.Chip.{column_stop};
 
 use crate::ram_column;
+use basics::refusal::Refusal;
+use basics::word_of;
 use sed1520::memory::index;
 use sed1520::registers::Chip;
-
-// Four bytes as one number, the first lowest.
-fn four_bytes(first: u8, second: u8, third: u8, fourth: u8) -> u32
-    ensures { result ≡ first + 0x100 * second + 0x10000 * third + 0x1000000 * fourth }
-{
-    (first as u32)
-        + 0x100 * (second as u32)
-        + 0x1_0000 * (third as u32)
-        + 0x100_0000 * (fourth as u32)
-}
 
 // The four pages of a column as one number, line 0 lowest.
 fn column_lines(ram: &[u8], column: usize) -> u32
@@ -28,7 +20,7 @@ fn column_lines(ram: &[u8], column: usize) -> u32
     let second = index(1, column as u8);
     let third = index(2, column as u8);
     let fourth = index(3, column as u8);
-    four_bytes(ram[first], ram[second], ram[third], ram[fourth])
+    word_of(ram[first], ram[second], ram[third], ram[fourth])
 }
 
 // 32 lines turned so that they begin at a line, those before it at the end.
@@ -59,37 +51,17 @@ fn segment_rows(chip: Chip, ram: &[u8], n: usize) -> u32
     }
 }
 
-// What is given back of a segment: 0 with its 32 pixels, row 0 lowest, or the number of a refusal with none.
-#[derive(Clone, Copy)]
-pub struct Segment {
-    pub number: u8,
-    pub pixels: u32,
-}
-
-// The pixels of a segment: number 1 for RAM that is not 320 bytes or a segment that the chip does not drive, 2 for a chip
+// The 32 pixels of a segment, row 0 lowest: number 1 for RAM that is not 320 bytes or a segment that the chip does not drive, 2 for a chip
 // out of range.
 #[tactic(auto, using(std::proofs::lemmas::Bool::Decides::nat_tests), unfolding(crate::specs::Frame::segment_pixels))]
-pub fn segment_pixels(chip: Chip, ram: &[u8], n: usize) -> Segment
-    ensures { result ≡ segment_pixels chip ram.now n }
+pub fn segment_pixels(chip: Chip, ram: &[u8], n: usize) -> Result<u32, Refusal>
+    ensures { segment_of result ≡ segment_pixels chip ram.now n }
 {
-    let refused = Segment {
-        number: 1,
-        pixels: 0,
-    };
-    if ram.len() != Chip::RAM_WIDTH {
-        return refused;
-    }
-    if Chip::SEGMENTS <= n {
-        return refused;
+    if ram.len() != Chip::RAM_WIDTH || n >= Chip::SEGMENTS {
+        return Err(Refusal::WrongSize);
     }
     if !chip.in_range() {
-        return Segment {
-            number: 2,
-            pixels: 0,
-        };
+        return Err(Refusal::StateOutOfRange);
     }
-    Segment {
-        number: 0,
-        pixels: segment_rows(chip, ram, n),
-    }
+    Ok(segment_rows(chip, ram, n))
 }

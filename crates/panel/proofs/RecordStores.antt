@@ -5,7 +5,7 @@ use mathlib.Core.Path.{◌≡◌, refl, ◌∙◌}
 use mathlib.Core.Bool.{Bool, true, false}
 use mathlib.Core.List.{List, [], ◌∷◌}
 use mathlib.Core.Logic.{⊎_elim}
-use mathlib.Core.Option.{none, some}
+use Rattle.std.specs.Prelude.{None, Some}
 use lib.Dec.{eqb}
 use lib.ListN.{length, set}
 use borrow.Author.Tests.{eqb-true, eqb-false, eq-eqb, ne_eqb}
@@ -16,7 +16,6 @@ use Rattle.basics.proofs.Counts.{sum_zeros, sum_one, sum_same, sum-plus}
 use Rattle.basics.proofs.Halves.{same_back, put-set}
 use Rattle.basics.proofs.Run.{run_none, run-accepted, run-refused}
 use Rattle.basics.proofs.Tests.{tested}
-use Rattle.sed1520.specs.Cycle.{stored_index}
 use Rattle.sed1520.specs.Memory.{ram_index}
 use Rattle.sed1520.specs.Replies.{is_byte, stores_to}
 use Rattle.sed1520.specs.Stores.{finds_column}
@@ -32,7 +31,7 @@ image-start : (k : ℕ) → k < 2 → part_start 320 k ≡ 320 * k
 image-start k h = ⊎_elim (λ t. let e = eqb-true k 0 t in rw t (omega arith)) (λ t. let d = eqb-false k 0 t in rw t (omega arith)) (tested (eqb k 0))
 
 module _ (p : Panel) (image : length p.ram ≡ 640) (r : Record) where
-  byte-stored : (i : ℕ) → stored_index (outcome_of p r).answer.stored ≡ some i → (i < 640) × ((stepped p r).ram ≡ set p.ram i r.byte)
+  byte-stored : (i : ℕ) → (outcome_of p r).answer.stored ≡ Some i → (i < 640) × ((stepped p r).ram ≡ set p.ram i r.byte)
   unfolding stepped outcome_of
   byte-stored i e =
       let c = chip_at p r.chip in
@@ -60,7 +59,7 @@ pub every-record-says : EveryRecordSays
 every-record-says = record-says
 
 -- one byte said is counted once among the 640, and none not at all
-said-once : (t : Bool) (j : ℕ) → (t ≡ true → j < 640) → sum_below (λ i. if (is_byte i (if t (some j) none)) 1 0) 640 ≡ if t 1 0
+said-once : (t : Bool) (j : ℕ) → (t ≡ true → j < 640) → sum_below (λ i. if (is_byte i (if t (Some j) None)) 1 0) 640 ≡ if t 1 0
 said-once true j within =
     sum_one (λ i. if (eqb i j) 1 0) j 640 (within refl) (λ i _ apart. rw (ne_eqb i j apart)) ∙ rw (eq-eqb j j refl)
 said-once false j within = sum_zeros (λ i. 0) 640 (λ i _. refl)
@@ -77,7 +76,7 @@ all-stores (r ∷ rs) p whole =
     let rest = (panel_run (stepped p r) rs).answers in
     let one = said-once finds (write_index p r.chip) (λ f. (says.byte (write_index p r.chip) (rw f at said)).0) in
     rw (run-accepted panel_step p r rs t, t)
-    (sum_same _ (λ i. if (is_byte i (if finds (some (write_index p r.chip)) none)) 1 0 + stores_to i rest) 640
+    (sum_same _ (λ i. if (is_byte i (if finds (Some (write_index p r.chip)) None)) 1 0 + stores_to i rest) 640
     (λ i _. stores-first i _ rest ∙ rw said)
     ∙ sum-plus _ (λ i. stores_to i rest) 640
     ∙ rw (one, all-stores rs (stepped p r) (stepped-whole p r whole))))

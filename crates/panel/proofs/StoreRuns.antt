@@ -6,7 +6,7 @@ use mathlib.Core.Path.{◌≡◌, refl, ◌∙◌}
 use mathlib.Core.Bool.{Bool, true, false}
 use mathlib.Core.List.{List, [], ◌∷◌}
 use mathlib.Core.Logic.{⊎_elim}
-use mathlib.Core.Option.{none, some}
+use Rattle.std.specs.Prelude.{None, Some}
 use lib.Dec.{ltb, eqb}
 use borrow.Author.Tests.{eqb-true}
 use Rattle.basics.specs.Choice.{if}
@@ -16,7 +16,7 @@ use Rattle.basics.proofs.Counts.{lies-in-none, lies-first}
 use Rattle.basics.proofs.Run.{run-accepted, run-refused, run_none}
 use Rattle.basics.proofs.RunOfPart.{Each}
 use Rattle.basics.proofs.Tests.{tested, when, own-choice}
-use Rattle.sed1520.specs.Cycle.{Reply, stored_index}
+use Rattle.sed1520.specs.Cycle.{Reply}
 use Rattle.sed1520.specs.Memory.{image_index}
 use Rattle.sed1520.specs.Replies.{is_byte, stores_to}
 use Rattle.sed1520.specs.declared.registers.Chip.{Chip}
@@ -54,11 +54,11 @@ module _ (from to i : ℕ) (below : Bool) where
   still-on : next ≤ to → from ≤ to
   still-on = when (λ n. n ≤ to → from ≤ to) below (λ _ h. omega arith) (λ _ h. h)
 
-  one_more : next ≤ to → ◌≡◌ {A = ℕ} (if (is_byte i (if below (some from) none)) 1 0 + if (lies_in next to i) 1 0) (if (lies_in from to i) 1 0)
+  one_more : next ≤ to → ◌≡◌ {A = ℕ} (if (is_byte i (if below (Some from) None)) 1 0 + if (lies_in next to i) 1 0) (if (lies_in from to i) 1 0)
   one_more = by below
     where
       by : (t : Bool) → if t (from + 1) from ≤ to
-          → ◌≡◌ {A = ℕ} (if (is_byte i (if t (some from) none)) 1 0 + if (lies_in (if t (from + 1) from) to i) 1 0) (if (lies_in from to i) 1 0)
+          → ◌≡◌ {A = ℕ} (if (is_byte i (if t (Some from) None)) 1 0 + if (lies_in (if t (from + 1) from) to i) 1 0) (if (lies_in from to i) 1 0)
       by true h = lies-first from to i h
       by false h = omega arith
 
@@ -85,7 +85,7 @@ module _ (k : ℕ) where
     unfolding stepped
     own = own-choice (eqb r.chip 0) (outcome_of p r).answer.chip p.left p.right
 
-    says : stored_index (outcome_of p r).answer.stored ≡ if below (some (write_index p k)) none
+    says : (outcome_of p r).answer.stored ≡ if below (Some (write_index p k)) None
     unfolding outcome_of
     says = rw (← named) written.says
 

@@ -1,6 +1,6 @@
 -- Two chips on one bus: each acts by its own records alone, so the order between the chips does not matter (request C-18).
 use Rattle.std.specs.Prelude.{ℕ, zero, suc, ◌≡◌, List, length}
-use Rattle.std.proofs.Math.Option.{none}
+use Rattle.std.specs.Prelude.{None}
 use Rattle.basics.specs.Keys.{SameByKey}
 use Rattle.basics.specs.Run.{Step}
 use Rattle.basics.specs.RunByKey.{ByOwnRuns, SameRuns}
@@ -32,7 +32,7 @@ part_of_chip (suc (suc k)) p = tt
 abbrev pub alone_step : (k : ℕ) → ChipPart k → Record → Step (ChipPart k) Reply
 alone_step zero s r = chip_step s r
 alone_step (suc zero) s r = chip_step s r
-alone_step (suc (suc k)) s r = record { number = 5; answer = record { kind = 0; byte = 0; stored = none }; next = tt }
+alone_step (suc (suc k)) s r = record { number = 5; answer = record { kind = 0; byte = 0; stored = None }; next = tt }
 
 -- a run on a panel with an image of 640 bytes is that of each chip alone, over its own records: done exactly when each of these is, with their
 -- answers, and with their chips and RAM at the end

@@ -1,8 +1,7 @@
 -- What is proved of the byte of the image that a record says it stored to, and how many bytes records store to (request C-16).
 use Rattle.std.specs.Prelude.{ℕ, ◌+◌, ◌<◌, ◌≡◌, List, [], ◌∷◌, eqb, length}
-use Rattle.std.proofs.Math.Option.{none, some}
+use Rattle.std.specs.Prelude.{None, Some}
 use Rattle.basics.specs.Choice.{if}
-use Rattle.sed1520.specs.Cycle.{stored_index}
 use Rattle.sed1520.specs.Memory.{image_index}
 use Rattle.sed1520.specs.Stores.{finds_column, OneStored}
 use Rattle.sed1520.specs.declared.bus.Record.{Record}
@@ -17,10 +16,10 @@ write_index p k = image_index k (chip_at p k).page (chip_at p k).column
 -- holds the written byte
 pub record SaysStoredInImage (p : Panel) (r : Record) : Type 0 where
   pub accepted : (outcome_of p r).answer.number ≡ 0
-      → stored_index (outcome_of p r).answer.stored ≡ if (finds_column r (chip_at p r.chip)) (some (write_index p r.chip)) none
-  pub refused : ((outcome_of p r).answer.number ≡ 0 → ⊥) → stored_index (outcome_of p r).answer.stored ≡ none
-  pub nothing : stored_index (outcome_of p r).answer.stored ≡ none → (stepped p r).ram ≡ p.ram
-  pub byte : (i : ℕ) → stored_index (outcome_of p r).answer.stored ≡ some i
+      → (outcome_of p r).answer.stored ≡ if (finds_column r (chip_at p r.chip)) (Some (write_index p r.chip)) None
+  pub refused : ((outcome_of p r).answer.number ≡ 0 → ⊥) → (outcome_of p r).answer.stored ≡ None
+  pub nothing : (outcome_of p r).answer.stored ≡ None → (stepped p r).ram ≡ p.ram
+  pub byte : (i : ℕ) → (outcome_of p r).answer.stored ≡ Some i
       → (i < image_length) × OneStored i r.byte p.ram (stepped p r).ram
 
 -- every record on every panel of 640 bytes, also where number 2 refuses a chip, says what it stored to as `SaysStoredInImage` has it

@@ -9,6 +9,7 @@ ghost use Rattle.sed1520.specs.Replies.{in_place};
 ghost use Rattle.panel.specs.Step.{run_chips};
 
 use crate::chips::{CHIPS_BYTES, IMAGE_BYTES};
+use basics::refusal::Refusal;
 use sed1520::bus::RECORD_BYTES;
 use sed1520::bytes_run::run_of_tested_bytes;
 use sed1520::chip_bytes::CHIP_BYTES;
@@ -37,10 +38,10 @@ pub fn run_of_tested_chips(
         ≡ columns_written trace.now (part_start chip_length (front trace.now).chip) chips.old chips.new }
 {
     if chips.len() != CHIPS_BYTES {
-        return Ran::unmoved(Tally::nothing_run(1, 0));
+        return Ran::refused(Refusal::WrongSize);
     }
     if ram.len() != IMAGE_BYTES {
-        return Ran::unmoved(Tally::nothing_run(1, 0));
+        return Ran::refused(Refusal::WrongSize);
     }
     if trace.len() < RECORD_BYTES {
         return Ran::unmoved(Tally::nothing_run(0, 0));

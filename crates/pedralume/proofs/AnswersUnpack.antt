@@ -1,12 +1,9 @@
 -- The 64-bit number of a call can be taken apart.
 use Prim.Native.Nat.{ℕ, ◌<◌}
 use native.Mathlib.Omega.{arith}
-use mathlib.Core.Path.{◌≡◌}
 use mathlib.Core.List.{List}
 use Rattle.trace.specs.Replay.{replay_in_place}
-use Rattle.sed1520.specs.Replies.{InPlace}
 use Rattle.trace.proofs.Bounds.{Few, replay-bounded, in-place-bounded}
-use Rattle.sed1520.specs.declared.tally.Tally.{Tally}
 use Rattle.frame.proofs.FrameCases.{places-small}
 use Rattle.repaint.proofs.RepaintCases as repaint
 use Rattle.repaint.proofs.SparingCases as sparing
@@ -25,17 +22,16 @@ small few =
       differing-small = omega (arith, few.differing-few);
     }
 
-pub packable : (chips ram trace answers : List ℕ) (i : InPlace Tally) → i ≡ replay_in_place chips ram trace answers
-    → (i.answer.place < 65536) × ((i.answer.compared < 65536) × (i.answer.differing < 65536))
-packable chips ram trace answers i e =
-    let few = small (in-place-bounded chips ram trace answers) in
-    rw e (few.place-small, (few.compared-small, few.differing-small))
+-- for the search at `pedralume_replay`
+pub replay_small : (chips ram trace answers : List ℕ) → let a = (replay_in_place chips ram trace answers).answer in
+    Small a.place a.compared a.differing
+replay_small chips ram trace answers = small (in-place-bounded chips ram trace answers)
 
 pub answers-unpack : AnswersUnpack
 answers-unpack =
     record {
       parts = unpacks;
-      replay = λ chips ram trace answers. small (in-place-bounded chips ram trace answers);
+      replay = replay_small;
       replay-by-value = λ p trace answers. small (replay-bounded p trace answers);
       frame-place = places-small;
       changes-place = changes.places-small;

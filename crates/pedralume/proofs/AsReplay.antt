@@ -7,8 +7,8 @@ use lib.Dec.{ltb, eqb}
 use lib.ListN.{length, drop}
 use borrow.Author.Tests.{lt-ltb, le-ltb, eq-eqb, ne_eqb}
 use Rattle.basics.specs.Table.{cause, unless_refused}
-use Rattle.basics.specs.Verdict.{verdict, Result, result_of}
-use Rattle.basics.specs.declared.verdict.Verdict.{Verdict}
+use Rattle.basics.specs.Verdict.{verdict, CallResult, result_of}
+use Rattle.basics.specs.Verdict.{Verdict}
 use Rattle.basics.proofs.Tests.{when-both}
 use Rattle.sed1520.specs.Chip.{in_range}
 use Rattle.sed1520.specs.Records.{whole_records}
@@ -27,13 +27,13 @@ module _ (p : Panel) (trace answers buffer : List ℕ) (room : 2 * (length trace
   entries = all_entries p (whole_records trace)
 
   -- what the list of changes gives where a replay comes to an outcome
-  abbrev given_by : ReplayOutcome → Result Verdict (List ℕ)
+  abbrev given_by : ReplayOutcome → CallResult Verdict (List ℕ)
   given_by o =
       let n = o.answer.number in
       unless_refused (cause n o.answer.place (not (eqb n 0)) ∷ cause 15 (length entries) (ltb (length buffer) (8 * length entries)) ∷ [])
       (λ n at. result_of (verdict n at) buffer) (result_of (verdict 0 (length entries)) (entries_bytes entries ++ drop (8 * length entries) buffer))
 
-  abbrev By : Result Verdict (List ℕ) → ReplayOutcome → Type 0
+  abbrev By : CallResult Verdict (List ℕ) → ReplayOutcome → Type 0
   By x o = x ≡ given_by o
 
   -- both go through the same tests

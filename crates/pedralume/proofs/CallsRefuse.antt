@@ -7,22 +7,21 @@ use mathlib.Core.Logic.{⊎_elim}
 use lib.ListN.{length}
 use borrow.Author.Tests.{eqb-true, eqb-false, not-true, not-false}
 use Rattle.basics.specs.Table.{First, NoneHolds}
-use Rattle.basics.specs.Verdict.{Result}
+use Rattle.basics.specs.Verdict.{CallResult}
 use Rattle.sed1520.specs.Chip.{in_range}
 use Rattle.sed1520.specs.declared.registers.Chip.{Chip}
 use Rattle.panel.specs.Chips.{chips_in}
-use Rattle.panel.specs.Panel.{as_panel}
 use Rattle.panel.proofs.TwoChips.{left-passes, right-passes}
 use Rattle.frame.specs.Frame.{framed}
 use Rattle.repaint.specs.Repaint.{repaint_of}
 use Rattle.repaint.specs.Sparing.{sparing_of}
 use Rattle.visible.specs.Changes.{changes_of}
-use Rattle.pedralume.specs.Call.{packed_with, on_chips, packed_filled}
+use Rattle.pedralume.specs.Call.{packed_with, on_chips}
 use Rattle.pedralume.specs.Refusals.{bytes_table, CallsRefuse}
 use Rattle.pedralume.proofs.OnChips.{wrong-length, on-chips}
 
 -- a call whose callee gives number 1 for its sizes, then number 2 for the left chip, then for the right
-module _ (wrong : Bool) (chips buffer : List ℕ) (call : Chip → Chip → Result ℕ (List ℕ))
+module _ (wrong : Bool) (chips buffer : List ℕ) (call : Chip → Chip → CallResult ℕ (List ℕ))
     (sizes : (l r : Chip) → wrong ≡ true → call l r ≡ packed_with buffer 1 0)
     (left : (l r : Chip) → wrong ≡ false → in_range l ≡ false → call l r ≡ packed_with buffer 2 0)
     (right : (l r : Chip) → wrong ≡ false → in_range l ≡ true → in_range r ≡ false → call l r ≡ packed_with buffer 2 1) where
@@ -45,7 +44,7 @@ module _ (wrong : Bool) (chips buffer : List ℕ) (call : Chip → Chip → Resu
       past.1)
 
 -- a call that no line of its table refuses
-not-refused : (wrong : Bool) (chips buffer : List ℕ) (call : Chip → Chip → Result ℕ (List ℕ)) → NoneHolds (bytes_table wrong chips)
+not-refused : (wrong : Bool) (chips buffer : List ℕ) (call : Chip → Chip → CallResult ℕ (List ℕ)) → NoneHolds (bytes_table wrong chips)
     → on_chips chips buffer call ≡ call (chips_in chips).left (chips_in chips).right
 not-refused wrong chips buffer call none = on-chips chips buffer call (eqb-true (length chips) 24 (not-false _ none.0))
 
@@ -54,19 +53,19 @@ unfolding framed repaint_of sparing_of changes_of
 calls-refuse =
     record {
       frame =
-          λ chips ram buffer. refuses _ chips buffer (λ l r. packed_filled (framed (as_panel l r ram) buffer))
+          λ chips ram buffer. refuses _ chips buffer _
           (λ l r e. rw e) (λ l r s out. rw (s, out)) (λ l r s within out. rw (s, within, out));
       repaint =
-          λ chips picture buffer. refuses _ chips buffer (λ l r. packed_filled (repaint_of l r picture buffer))
+          λ chips picture buffer. refuses _ chips buffer _
           (λ l r e. rw e) (λ l r s out. rw (s, out)) (λ l r s within out. rw (s, within, out));
       sparing =
-          λ chips ram picture buffer. refuses _ chips buffer (λ l r. packed_filled (sparing_of (as_panel l r ram) picture buffer))
+          λ chips ram picture buffer. refuses _ chips buffer _
           (λ l r e. rw e) (λ l r s out. rw (s, out)) (λ l r s within out. rw (s, within, out));
       changes =
-          λ chips ram trace buffer. refuses _ chips buffer (λ l r. packed_filled (changes_of (as_panel l r ram) trace buffer))
+          λ chips ram trace buffer. refuses _ chips buffer _
           (λ l r e. rw e) (λ l r s out. rw (s, out)) (λ l r s within out. rw (s, within, out));
-      frame-else = λ chips ram buffer. not-refused _ chips buffer (λ l r. packed_filled (framed (as_panel l r ram) buffer));
-      repaint-else = λ chips picture buffer. not-refused _ chips buffer (λ l r. packed_filled (repaint_of l r picture buffer));
-      sparing-else = λ chips ram picture buffer. not-refused _ chips buffer (λ l r. packed_filled (sparing_of (as_panel l r ram) picture buffer));
-      changes-else = λ chips ram trace buffer. not-refused _ chips buffer (λ l r. packed_filled (changes_of (as_panel l r ram) trace buffer));
+      frame-else = λ chips ram buffer. not-refused _ chips buffer _;
+      repaint-else = λ chips picture buffer. not-refused _ chips buffer _;
+      sparing-else = λ chips ram picture buffer. not-refused _ chips buffer _;
+      changes-else = λ chips ram trace buffer. not-refused _ chips buffer _;
     }

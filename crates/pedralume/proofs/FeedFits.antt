@@ -6,16 +6,14 @@ use mathlib.Core.Bool.{true}
 use mathlib.Core.List.{List, []}
 use lib.Dec.{eqb}
 use lib.ListN.{length}
-use Rattle.basics.specs.Choice.{if}
-use Rattle.basics.proofs.Table.{each_line}
 use Rattle.basics.proofs.Tests.{when}
 use Rattle.sed1520.specs.declared.registers.Chip.{Chip}
 use Rattle.panel.specs.Panel.{as_panel, Whole}
 use Rattle.panel.specs.Promises.{is_record_number}
-use Rattle.trace.specs.Replay.{ended, ended_bytes}
+use Rattle.trace.specs.Replay.{ended}
 use Rattle.sed1520.specs.Replies.{tally}
-use Rattle.trace.specs.Feed.{begun, joined_to, cut_off, as_feed, feed_table, part_table, PartOutcome, fed_with, not_taken, took_part, counted_on, moved_on}
-use Rattle.trace.specs.Feed.{stopped_with, open_of, open_part, part_of, open_close, close_of}
+use Rattle.trace.specs.Feed.{begun, joined_to, cut_off, as_feed, PartOutcome, counted_on}
+use Rattle.trace.specs.Feed.{moved_on, stopped_with, open_of, part_of, close_of}
 use Rattle.sed1520.specs.declared.tally.Tally.{Tally}
 use Rattle.trace.specs.declared.progress.Ending.{Ending}
 use Rattle.trace.specs.declared.progress.Ending.TheVariants.{Open, Stopped}
@@ -23,21 +21,22 @@ use Rattle.trace.specs.declared.progress.Progress.{Progress}
 use Rattle.trace.specs.declared.feed.Feed.{Feed}
 use Rattle.trace.specs.declared.feed.Fed.{Fed}
 use Rattle.trace.proofs.Bounds.{tally-few}
-use Rattle.trace.proofs.FeedCases.{of_feed, PartRight, part_right, state-two, state-low, by-ending}
+use Rattle.trace.proofs.FeedCases.{PartRight, state-two, state-low}
 use Rattle.trace.proofs.KeptOver.{joined_length, cut-off-length}
 use Rattle.trace.proofs.RunNumbers.{run-number, low-number}
 use Rattle.pedralume.specs.FeedBytes.{number_byte, stop_place}
 use Rattle.pedralume.specs.FeedPromises.{BytesFit, Fits}
+use Rattle.pedralume.proofs.FeedWays.{part_run, open-ways, close-ways, part-ways}
 use Rattle.pedralume.proofs.BytesFit.{no_byte, byte_more, append-fit, take-fit, drop-fit}
 
 -- the number of a part's records, run on a whole panel
 module _ (f : Feed) (ram part answers : List ℕ) (right : PartRight f (length ram) (length part) (length answers)) where
-  pub part-number : is_record_number (ended_bytes (as_panel f.left f.right ram) (joined_to f.progress part) answers).answer.number ≡ true
+  pub part-number : is_record_number (part_run f ram part answers).answer.number ≡ true
   unfolding ended
   part-number =
-      let whole : Whole (as_panel f.left f.right ram) =
+      let whole : Whole (as_panel f.chips.left f.chips.right ram) =
       record { left = right.state.left; right = right.state.right; image = right.sizes.image } in
-      run-number (as_panel f.left f.right ram) whole (joined_to f.progress part)
+      run-number (as_panel f.chips.left f.chips.right ram) whole (joined_to f.progress part)
 
 abbrev FedFits : Fed → Type 0
 FedFits o = Fits o.feed.progress
@@ -78,31 +77,25 @@ joined-fit t part fits fit =
 
 module _ (f : Feed) (fits : Fits f.progress) where
   pub part-fits : (ram part answers : List ℕ) → BytesFit part → Fits (part_of f ram part answers).lent.state.progress
-  unfolding part_of open_part
   part-fits ram part answers fit =
       let t = f.progress in
       let bytes = joined_to t part in
-      let o = ended_bytes (as_panel f.left f.right ram) bytes answers in
-      by-ending PartFits t.ending (λ n at e. fits)
-      (λ _. each_line (not_taken f ram answers) (took_part f bytes o) PartFits (of_feed part_table f (length ram) (length part) (length answers))
-      (λ n at _. fits)
-      (λ none. let right = part_right f (length ram) (length part) (length answers) none in
-      let few = tally-few (as_panel f.left f.right ram) bytes answers refl in
+      let ran = (part_run f ram part answers).answer in
+      part-ways PartFits f ram part answers (λ n at _. fits) (λ n at _. fits)
+      (λ _ right. let few = tally-few (as_panel f.chips.left f.chips.right ram) bytes answers refl in
       let state = right.state in
       let size = joined_length t state.few part in
-      let n = low-number o.answer.number (part-number f ram part answers right) in
-      moved-fits t o.answer
+      let n = low-number ran.number (part-number f ram part answers right) in
+      moved-fits t ran
       (omega (arith, few.place-few, size, right.countable))
       (omega (arith, few.compared-few, size, right.countable, state.compared))
       (omega (arith, few.differing-few, size, right.countable, state.compared, state.differing))
-      bytes (joined-fit t part fits fit) (omega (arith, n))))
+      bytes (joined-fit t part fits fit) (omega (arith, n)))
 
   pub close-fits : FedFits (close_of f)
-  unfolding close_of open_close
   close-fits =
-      by-ending FedFits f.progress.ending (λ n at e. fits)
-      (λ _. each_line (fed_with f) (stopped_with f (if (eqb f.progress.kept 0) 0 3)) FedFits (of_feed feed_table f) (λ n at _. fits)
-      (λ _. stopped-fits (when (λ (n : ℕ). n < 256) (eqb f.progress.kept 0) (λ _. omega arith) (λ _. omega arith))))
+      close-ways FedFits f (λ n at _. fits) (λ n at _. fits)
+      (λ _. stopped-fits (when (λ (n : ℕ). n < 256) (eqb f.progress.kept 0) (λ _. omega arith) (λ _. omega arith)))
     where
       stopped-fits : {n : ℕ} → n < 256 → FedFits (stopped_with f n)
       stopped-fits h =
@@ -123,9 +116,8 @@ begun-fits e number place =
     counted-fits (begun Open) (tally 0 0 0 0) (omega arith) (omega arith) (omega arith) [] e (omega arith) no_byte number place
 
 pub open-fits : (left right : Chip) → FedFits (open_of left right)
-unfolding open_of
 open-fits left right =
     let f = as_feed left right (begun Open) in
-    each_line (λ n at. fed_with (as_feed left right (begun (Stopped n at))) n at) (fed_with f 0 0) FedFits (of_feed feed_table f)
+    open-ways FedFits left right
     (λ n at first. begun-fits (Stopped n at) (omega (arith, state-two f n at first)) (omega (arith, state-low f n at first)))
-    (λ _. begun-fits Open (omega arith) (omega arith))
+    (begun-fits Open (omega arith) (omega arith))

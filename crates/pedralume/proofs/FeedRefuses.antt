@@ -16,9 +16,8 @@ use Rattle.basics.specs.Verdict.{result_of}
 use Rattle.basics.proofs.Tests.{tested}
 use Rattle.sed1520.specs.ChipBytes.{bytes_pass}
 use Rattle.panel.specs.Chips.{chips_in}
-use Rattle.panel.specs.Panel.{as_panel}
 use Rattle.panel.proofs.TwoChips.{left-passes, right-passes}
-use Rattle.trace.specs.Replay.{ReplayOutcome, ended_bytes, sizes_wrong}
+use Rattle.trace.specs.Replay.{ReplayOutcome, sizes_wrong}
 use Rattle.sed1520.specs.Replies.{in_place}
 use Rattle.trace.specs.Feed.{begun, joined_to, completed_by, too_many, progress_wrong, feed_table, part_table, fed_with, took_part, close_of}
 use Rattle.trace.specs.FeedInPlace.{feed_in, fed_in_place, part_in_place}
@@ -34,6 +33,7 @@ use Rattle.pedralume.specs.FeedBytes.{word_at, progress_bytes, marks_right, prog
 use Rattle.pedralume.specs.FeedCall.{feed_packed, tally_packed, stays, open_call, part_call, close_call}
 use Rattle.pedralume.specs.FeedPromises.{StoppedBytesRepeat, feed_bytes_table, part_call_table, FeedCallsRefuse}
 use Rattle.pedralume.proofs.FeedCallCases.{part_length, part-whole, close-length, close-whole, open-feed, open-chips}
+use Rattle.pedralume.proofs.FeedWays.{part_run}
 use Rattle.pedralume.proofs.FeedFits.{part-number}
 use Rattle.pedralume.proofs.FeedUndo.{feed-unpacks}
 
@@ -50,10 +50,11 @@ module _ (feed : List ℕ) (h : length feed ≡ 48) (n at : ℕ) where
         → part_in_place (take 24 feed) t ram part answers ≡ in_place (fed_in_place t n at) (take 24 feed) ram answers
         → part_call feed ram part answers ≡ in_place (feed_packed n at) feed ram answers
     part_stays ram part answers e =
-        sym (part-whole feed ram part answers h t refl _ (sym e)) ∙ rw same (rw (take-append-drop 24 feed))
+        part-whole feed ram part answers h t refl _ (sym e) ∙ rw same (rw (take-append-drop 24 feed))
 
-    pub close-stays : close_of (feed_in (take 24 feed) t) ≡ fed_with (feed_in (take 24 feed) t) n at → close_call feed ≡ result_of (feed_packed n at) feed
-    close-stays e = sym (close-whole feed h t refl _ (sym e)) ∙ rw same (rw (take-append-drop 24 feed))
+    pub close-stays : close_of (feed_in (take 24 feed) t) ≡ fed_with (feed_in (take 24 feed) t) n at
+        → close_call feed ≡ result_of (feed_packed n at) feed
+    close-stays e = close-whole feed h t refl _ (sym e) ∙ rw same (rw (take-append-drop 24 feed))
 
 -- the bytes of a stopped feed
 module _ (feed : List ℕ) (one : get_or feed 28 0 ≡ 1) where
@@ -125,7 +126,7 @@ module _ (feed : List ℕ) (h : length feed ≡ 48) where
   module _ (ram part answers : List ℕ) (other : get_or feed 28 0 ≡ 1 → ⊥)
       (none : NoneHolds (part_call_table feed (length ram) (length part) (length answers))) where
     abbrev outcome : ReplayOutcome
-    outcome = ended_bytes (as_panel read.left read.right ram) (joined_to read.progress part) answers
+    outcome = part_run read ram part answers
 
     passed : NoneHolds (of_feed part_table read (length ram) (length part) (length answers))
     passed = subst NoneHolds (sym (same-part (length ram) (length part) (length answers))) none
@@ -133,7 +134,7 @@ module _ (feed : List ℕ) (h : length feed ≡ 48) where
     given : (part_call feed ram part answers).answer ≡ tally_packed (took_part read (joined_to read.progress part) outcome).answer
     given =
         let is = still_open (take 24 feed) ram part answers _ (chips-length feed h 0 0) (is_open other) in
-        rw (← part-whole feed ram part answers h _ refl _ (sym is)) (rw (part-taken read ram part answers passed))
+        rw (part-whole feed ram part answers h _ refl _ (sym is)) (rw (part-taken read ram part answers passed))
 
     part-call-taken : refuses_part ((part_call feed ram part answers).answer % 256) ≡ false
     part-call-taken =
@@ -145,7 +146,7 @@ module _ (feed : List ℕ) (h : length feed ≡ 48) where
       → (close_call feed).answer ≡ feed_packed (if (eqb (get_or (drop 24 feed) 0 0) 0) 0 3) (word_at (drop 24 feed) 12)
   unfolding progress_in
   close-call-done other none =
-      rw (← close-whole feed h _ refl _ (sym (closes read (is_open other) ∙ close_passed read (subst NoneHolds (sym same-state) none))))
+      rw (close-whole feed h _ refl _ (sym (closes read (is_open other) ∙ close_passed read (subst NoneHolds (sym same-state) none))))
 
 -- an opening's number 2
 module _ (feed chips : List ℕ) (h : length feed ≡ 48) (k : length chips ≡ 24) (n at : ℕ) where
@@ -161,20 +162,20 @@ module _ (feed chips : List ℕ) (h : length feed ≡ 48) (k : length chips ≡ 
 open-sizes : (feed chips : List ℕ) → (length chips ≡ 24 → ⊥) → open_call feed chips ≡ result_of (feed_packed 1 0) feed
 open-sizes feed chips wrong =
     ⊎_elim
-    (λ t. sym (open-chips feed chips (eqb-true (length feed) 48 t) wrong))
-    (λ t. sym (open-feed feed chips (eqb-false (length feed) 48 t)))
+    (λ t. open-chips feed chips (eqb-true (length feed) 48 t) wrong)
+    (λ t. open-feed feed chips (eqb-false (length feed) 48 t))
     (tested (eqb (length feed) 48))
 
 pub feed-calls-refuse : FeedCallsRefuse
 feed-calls-refuse =
     record {
-      open-feed = λ feed chips wrong. sym (open-feed feed chips wrong);
+      open-feed = open-feed;
       open-chips = open-sizes;
       open-state = open-call-state;
-      part-feed = λ feed ram part answers wrong. sym (part_length feed ram part answers wrong);
+      part-feed = part_length;
       part = λ feed ram part answers h other n at. part-call-refused feed h other n at ram part answers;
       part-taken = λ feed ram part answers h. part-call-taken feed h ram part answers;
-      close-feed = λ feed wrong. sym (close-length feed wrong);
+      close-feed = close-length;
       close-state = close-call-refused;
       close-done = close-call-done;
     }

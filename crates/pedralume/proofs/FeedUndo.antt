@@ -16,14 +16,14 @@ use Rattle.pedralume.specs.FeedBytes.{stopped_byte, feed_bytes, progress_bytes, 
 use Rattle.pedralume.specs.FeedPromises.{BytesFit, Fits, FeedUnpacks, FeedBytesUndo}
 use Rattle.pedralume.proofs.BytesFit.{no_byte, byte_more, number_more}
 use Rattle.pedralume.proofs.FeedBack.{back}
-use Rattle.pedralume.proofs.FeedPlaces.{open-place, part-place, close-place}
+use Rattle.pedralume.proofs.FeedPlaces.{open_place, part-place, close-place}
 
 pub feed-unpacks : FeedUnpacks
 feed-unpacks =
     record {
       number_of = λ n at h. omega arith;
       place_of = λ n at h. omega arith;
-      open-place = open-place;
+      open-place = open_place;
       part-place = λ f ram part answers fits. part-place f fits ram part answers;
       close-place = close-place;
     }
@@ -61,19 +61,19 @@ progress-length t = refl
 
 pub feed-length : (f : Feed) → length (feed_bytes f) ≡ 48
 feed-length f =
-    length-append (chips_bytes f.left f.right) (progress_bytes f.progress)
-    ∙ omega (arith, two-length f.left f.right, progress-length f.progress)
+    length-append (chips_bytes f.chips.left f.chips.right) (progress_bytes f.progress)
+    ∙ omega (arith, two-length f.chips.left f.chips.right, progress-length f.progress)
 
 -- a feed's bytes taken apart
 module _ (f : Feed) where
-  pub front : take 24 (feed_bytes f) ≡ chips_bytes f.left f.right
-  front = take_at (chips_bytes f.left f.right) (progress_bytes f.progress) 24 (two-length f.left f.right)
+  pub front : take 24 (feed_bytes f) ≡ chips_bytes f.chips.left f.chips.right
+  front = take_at (chips_bytes f.chips.left f.chips.right) (progress_bytes f.progress) 24 (two-length f.chips.left f.chips.right)
 
   pub behind : drop 24 (feed_bytes f) ≡ progress_bytes f.progress
-  behind = drop_at (chips_bytes f.left f.right) (progress_bytes f.progress) 24 (two-length f.left f.right)
+  behind = drop_at (chips_bytes f.chips.left f.chips.right) (progress_bytes f.progress) 24 (two-length f.chips.left f.chips.right)
 
   feed-there : feed_in (take 24 (feed_bytes f)) (progress_in (drop 24 (feed_bytes f))) ≡ f
-  feed-there = rw (front, behind) (rw (two-there f.left f.right, there f.progress))
+  feed-there = rw (front, behind) (rw (two-there f.chips.left f.chips.right, there f.progress))
 
 stopped-small : (e : Ending) → stopped_byte e < 256
 stopped-small Open = omega arith

@@ -3,7 +3,7 @@ pub mod OnChips
 pub mod CallsRefuse
 pub mod Shown
 pub mod AnyOrder
-pub mod BytesPut
+pub mod FeedWays
 pub mod FeedPlaces
 pub mod FeedCallCases
 pub mod FeedRefuses

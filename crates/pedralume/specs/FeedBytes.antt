@@ -48,7 +48,7 @@ progress_bytes t =
 
 -- the 48 bytes of a feed
 abbrev pub feed_bytes : Feed → List ℕ
-feed_bytes f = chips_bytes f.left f.right ++ progress_bytes f.progress
+feed_bytes f = chips_bytes f.chips.left f.chips.right ++ progress_bytes f.progress
 
 -- the ending that the 24 bytes behind the chips give: stopped with its number and place, whatever else they say, else open
 abbrev pub ending_in : List ℕ → Ending

@@ -2,7 +2,7 @@
 use Rattle.std.specs.Prelude.{ℕ, ◌+◌, ◌*◌, Bool, true, not, ◌||◌, List, ◌++◌, eqb, length, take, drop}
 use Rattle.basics.specs.Choice.{if}
 use Rattle.panel.specs.Chips.{chips_length, chips_in}
-use Rattle.basics.specs.Verdict.{Result, result_of}
+use Rattle.basics.specs.Verdict.{CallResult, result_of}
 use Rattle.trace.specs.Feed.{open_of, close_of}
 use Rattle.trace.specs.FeedPromises.{refuses_part}
 use Rattle.trace.specs.FeedInPlace.{feed_in, part_in_place}
@@ -31,7 +31,7 @@ abbrev pub kept_or : Ending → ℕ → List ℕ → Progress → List ℕ
 kept_or e n old t = if (stays e n) old (progress_bytes t)
 
 -- the call that opens a feed: number 1 for lengths that are wrong; else all 48 bytes are written, the chips as given
-unfoldable pub open_call : List ℕ → List ℕ → Result ℕ (List ℕ)
+unfoldable pub open_call : List ℕ → List ℕ → CallResult ℕ (List ℕ)
 open_call feed chips =
     let o = open_of (chips_in chips).left (chips_in chips).right in
     if (not (eqb (length feed) feed_length) || not (eqb (length chips) chips_length)) (result_of (feed_packed 1 0) feed)
@@ -48,7 +48,7 @@ part_call feed ram part answers =
     o.lent.answers)
 
 -- the call that closes a feed: number 1 where the feed's bytes are not 48; else the feed that lies there is closed
-unfoldable pub close_call : List ℕ → Result ℕ (List ℕ)
+unfoldable pub close_call : List ℕ → CallResult ℕ (List ℕ)
 close_call feed =
     let t = progress_in (drop chips_length feed) in
     let o = close_of (feed_in (take chips_length feed) t) in

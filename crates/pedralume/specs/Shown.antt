@@ -25,7 +25,8 @@ abbrev pub ShownAfterEachPart : Type 0
 ShownAfterEachPart =
     (p : Panel) (xs : List Part) (buffer : List ℕ) → Whole p → Taken (open_of p.left p.right).feed p.ram xs → length buffer ≡ frame_length
     → let o = fed_from p xs in let f = o.lent.state in
-    framed (as_panel f.left f.right o.lent.ram) buffer ≡ result_of (verdict 0 frame_length) (frame_of (after p (whole_records (joined_bytes xs))))
+    framed (as_panel f.chips.left f.chips.right o.lent.ram) buffer
+    ≡ result_of (verdict 0 frame_length) (frame_of (after p (whole_records (joined_bytes xs))))
 
 -- the panel that a run of the first k records of any bytes, however many, leaves has a frame: that of the panel after these k records
 abbrev pub ShownInEveryRun : Type 0

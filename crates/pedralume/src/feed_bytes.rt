@@ -26,25 +26,17 @@ fn put_word(bytes: &mut [u8], at: usize, number: u32)
     requires { at + 4 ≤ length bytes.old }
     ensures { bytes.new ≡ put_word bytes.old at number }
 {
-    bytes[at] = (number % 0x100) as u8;
-    bytes[at + 1] = (number / 0x100 % 0x100) as u8;
-    bytes[at + 2] = (number / 0x1_0000 % 0x100) as u8;
-    bytes[at + 3] = (number / 0x100_0000) as u8;
+    bytes[at..at + 4].copy_from_slice(&number.to_le_bytes());
 }
 
 // Whether the marks are those of a stopped feed or of an open one: stopped is 1; or stopped, number, the two zeros and
 // the place are 0.
+#[tactic(auto, using(std::proofs::lemmas::Bool::Decides::nat_tests), unfolding(crate::specs::FeedBytes::marks_right))]
 fn marks_right(bytes: &[u8]) -> bool
     requires { length bytes.now ≡ progress_length }
     ensures { result ≡ marks_right bytes.now }
 {
-    if bytes[4] == 1 {
-        return true;
-    }
-    if word_at(bytes, 4) != 0 {
-        return false;
-    }
-    word_at(bytes, 8) == 0
+    bytes[4] == 1 || (word_at(bytes, 4) == 0 && word_at(bytes, 8) == 0)
 }
 
 // Stopped with its number and place, or open.
@@ -59,36 +51,29 @@ fn ending_in(bytes: &[u8]) -> Ending
 }
 
 // The progress that 24 bytes stand for; where the marks are wrong, one that number 2 refuses at place 3.
+#[tactic(auto, unfolding(crate::specs::FeedBytes::progress_in))]
 pub(crate) fn progress_in(bytes: &[u8]) -> Progress
     requires { length bytes.now ≡ progress_length }
     ensures { result ≡ progress_in bytes.now }
 {
-    let ending = ending_in(bytes);
-    let records = word_at(bytes, 12);
-    if !marks_right(bytes) {
-        return Progress {
-            kept: bytes[0],
-            first: bytes[1],
-            second: bytes[2],
-            third: bytes[3],
-            records,
-            compared: 0,
-            differing: 1,
-            ending,
-        };
-    }
-    let compared = word_at(bytes, 16);
-    let differing = word_at(bytes, 20);
-    Progress {
+    let whole = Progress {
         kept: bytes[0],
         first: bytes[1],
         second: bytes[2],
         third: bytes[3],
-        records,
-        compared,
-        differing,
-        ending,
+        records: word_at(bytes, 12),
+        compared: word_at(bytes, 16),
+        differing: word_at(bytes, 20),
+        ending: ending_in(bytes),
+    };
+    if !marks_right(bytes) {
+        return Progress {
+            compared: 0,
+            differing: 1,
+            ..whole
+        };
     }
+    whole
 }
 
 // A feed's progress written as 24 bytes.
@@ -96,47 +81,29 @@ pub(crate) fn progress_out(progress: Progress, bytes: &mut [u8])
     requires { length bytes.old ≡ progress_length }
     ensures { bytes.new ≡ progress_bytes progress }
 {
-    let ending = progress.ending;
-    bytes[0] = progress.kept;
-    bytes[1] = progress.first;
-    bytes[2] = progress.second;
-    bytes[3] = progress.third;
-    bytes[4] = stopped_byte(ending);
-    bytes[5] = number_byte(ending);
-    bytes[6] = 0;
-    bytes[7] = 0;
-    put_word(bytes, 8, place_of(ending));
+    let Progress {
+        kept,
+        first,
+        second,
+        third,
+        ..
+    } = progress;
+    let (stopped, number, place) = marks_of(progress.ending);
+    bytes[..8].copy_from_slice(&[kept, first, second, third, stopped, number, 0, 0]);
+    put_word(bytes, 8, place);
     put_word(bytes, 12, progress.records);
     put_word(bytes, 16, progress.compared);
     put_word(bytes, 20, progress.differing);
 }
 
-// 1 where a feed is stopped.
-fn stopped_byte(ending: Ending) -> u8
-    ensures { result ≡ stopped_byte ending }
+// 1 where a feed is stopped, with the number and the place that it repeats; else 0 in all three.
+fn marks_of(ending: Ending) -> (u8, u8, u32)
+    ensures stopped { result.0 ≡ stopped_byte ending }
+    ensures number { result.1 ≡ number_byte ending }
+    ensures place { result.2 ≡ stop_place ending }
 {
     match ending {
-        Ending::Stopped(_, _) => 1,
-        Ending::Open => 0,
-    }
-}
-
-// The number that a stopped feed repeats.
-fn number_byte(ending: Ending) -> u8
-    ensures { result ≡ number_byte ending }
-{
-    match ending {
-        Ending::Stopped(number, _) => number,
-        Ending::Open => 0,
-    }
-}
-
-// The place that a stopped feed repeats.
-fn place_of(ending: Ending) -> u32
-    ensures { result ≡ stop_place ending }
-{
-    match ending {
-        Ending::Stopped(_, place) => place,
-        Ending::Open => 0,
+        Ending::Open => (0, 0, 0),
+        Ending::Stopped(number, place) => (1, number, place),
     }
 }

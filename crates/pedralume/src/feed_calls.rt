@@ -6,8 +6,9 @@ ghost use Rattle.basics.specs.Verdict.{result_of};
 ghost use Rattle.sed1520.specs.Replies.{in_place};
 
 use crate::feed_bytes::{FEED_BYTES, progress_in, progress_out};
+use basics::refusal::Refusal;
 use panel::chips::{CHIPS_BYTES, chips_in};
-use trace::feed::{Feed, part_in_place};
+use trace::feed::{Fed, FedInPlace, Feed, part_in_place};
 use trace::progress::{Ending, Progress};
 
 // Number and place as one 64-bit number.
@@ -24,12 +25,7 @@ fn stays(ending: Ending, number: u8) -> bool
 {
     match ending {
         Ending::Stopped(_, _) => true,
-        Ending::Open => match number {
-            1 => true,
-            2 => true,
-            13 => true,
-            _ => false,
-        },
+        Ending::Open => matches!(number, 1 | 2 | 13),
     }
 }
 
@@ -46,29 +42,23 @@ fn write_back(ending: Ending, number: u8, next: Progress, bytes: &mut [u8])
 
 // Opens a feed on the chips' bytes: all 48 bytes of the feed are written, the chips as given.
 #[unsafe(no_mangle)]
+#[tactic(auto, using(std::proofs::lemmas::Bool::Decides::nat_tests, crate::proofs::FeedPlaces::open_place), unfolding(crate::specs::FeedCall::open_call))]
 pub extern "C" fn pedralume_feed_open(feed: &mut [u8], chips: &[u8]) -> u64
     ensures { result_of result feed.new ≡ open_call feed.old chips.now }
 {
-    if feed.len() != FEED_BYTES {
-        return pack_feed(1, 0);
+    if feed.len() != FEED_BYTES || chips.len() != CHIPS_BYTES {
+        return pack_feed(Refusal::WrongSize.number(), 0);
     }
-    if chips.len() != CHIPS_BYTES {
-        return pack_feed(1, 0);
-    }
-    let both = chips_in(chips);
-    let left = both.left;
-    let right = both.right;
-    let opened = Feed::open(left, right);
-    let next = opened.feed;
-    let progress = next.progress;
-    let tally = opened.tally;
-    basics::copy(chips, &mut feed[..CHIPS_BYTES]);
-    progress_out(progress, &mut feed[CHIPS_BYTES..]);
-    pack_feed(tally.number, tally.place)
+    let opened = Feed::open(chips_in(chips));
+    let (front, behind) = feed.split_at_mut(CHIPS_BYTES);
+    front.copy_from_slice(chips);
+    progress_out(opened.feed.progress, behind);
+    pack_feed(opened.tally.number, opened.tally.place)
 }
 
 // The next part of the trace given to the feed that lies in its 48 bytes, over the image and an answer buffer.
 #[unsafe(no_mangle)]
+#[tactic(auto, using(std::proofs::lemmas::Bool::Decides::nat_tests), unfolding(crate::specs::FeedCall::part_call))]
 pub extern "C" fn pedralume_feed_part(
     feed: &mut [u8],
     ram: &mut [u8],
@@ -79,39 +69,28 @@ pub extern "C" fn pedralume_feed_part(
         ≡ part_call feed.old ram.old part.now answers.old }
 {
     if feed.len() != FEED_BYTES {
-        return pack_feed(1, 0);
+        return pack_feed(Refusal::WrongSize.number(), 0);
     }
-    let progress = progress_in(&feed[CHIPS_BYTES..]);
-    let ending = progress.ending;
-    let went = part_in_place(&mut feed[..CHIPS_BYTES], progress, ram, part, answers);
-    let tally = went.tally;
-    let next = went.progress;
-    write_back(ending, tally.number, next, &mut feed[CHIPS_BYTES..]);
+    let (chips, behind) = feed.split_at_mut(CHIPS_BYTES);
+    let held = progress_in(behind);
+    let FedInPlace { tally, progress } = part_in_place(chips, held, ram, part, answers);
+    write_back(held.ending, tally.number, progress, behind);
     pack_feed(tally.number, tally.place)
 }
 
 // The end of the trace: the feed that lies in its 48 bytes is closed.
 #[unsafe(no_mangle)]
+#[tactic(auto, using(std::proofs::lemmas::Bool::Decides::nat_tests), unfolding(crate::specs::FeedCall::close_call))]
 pub extern "C" fn pedralume_feed_close(feed: &mut [u8]) -> u64
     ensures { result_of result feed.new ≡ close_call feed.old }
 {
     if feed.len() != FEED_BYTES {
-        return pack_feed(1, 0);
+        return pack_feed(Refusal::WrongSize.number(), 0);
     }
-    let progress = progress_in(&feed[CHIPS_BYTES..]);
-    let both = chips_in(&feed[..CHIPS_BYTES]);
-    let left = both.left;
-    let right = both.right;
-    let held = Feed {
-        left,
-        right,
-        progress,
-    };
-    let ending = progress.ending;
-    let closed = held.close();
-    let tally = closed.tally;
-    let after = closed.feed;
-    let stopped = after.progress;
-    write_back(ending, tally.number, stopped, &mut feed[CHIPS_BYTES..]);
+    let (chips, behind) = feed.split_at_mut(CHIPS_BYTES);
+    let chips = chips_in(chips);
+    let progress = progress_in(behind);
+    let Fed { tally, feed } = Feed { chips, progress }.close();
+    write_back(progress.ending, tally.number, feed.progress, behind);
     pack_feed(tally.number, tally.place)
 }

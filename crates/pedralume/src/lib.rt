@@ -13,11 +13,13 @@ ghost use Rattle.pedralume.specs.Call.{replay_call, frame_call, repaint_call, sp
 ghost use Rattle.basics.specs.Verdict.{result_of};
 ghost use Rattle.sed1520.specs.Replies.{in_place};
 
-use crate::packing::pack;
+use crate::packing::{pack, pack_verdict};
+use basics::refusal::Refusal;
 use panel::chips::{CHIPS_BYTES, chips_in};
 
 // The replay of a trace on the chips' bytes, the image and an answer buffer.
 #[unsafe(no_mangle)]
+#[tactic(auto, using(crate::proofs::AnswersUnpack::replay_small))]
 pub extern "C" fn pedralume_replay(
     chips: &mut [u8],
     ram: &mut [u8],
@@ -33,37 +35,32 @@ pub extern "C" fn pedralume_replay(
 
 // The frame that the chips' bytes and the image show, into a frame buffer.
 #[unsafe(no_mangle)]
+#[tactic(auto, using(crate::proofs::OnChips::call_cases), unfolding(crate::specs::Call::on_chips))]
 pub extern "C" fn pedralume_frame(chips: &[u8], ram: &[u8], frame: &mut [u8]) -> u64
     ensures { result_of result frame.new ≡ frame_call chips.now ram.now frame.old }
 {
     if chips.len() != CHIPS_BYTES {
-        return pack(1, 0, 0, 0);
+        return pack(Refusal::WrongSize.number(), 0, 0, 0);
     }
-    let both = chips_in(chips);
-    let left = both.left;
-    let right = both.right;
-    let done = frame::frame(left, right, ram, frame);
-    pack(done.number, done.place, 0, 0)
+    pack_verdict(frame::frame(chips_in(chips), ram, frame))
 }
 
 // The records that bring a picture to the panel of the chips' bytes, into an output buffer.
 #[unsafe(no_mangle)]
+#[tactic(auto, using(crate::proofs::OnChips::call_cases), unfolding(crate::specs::Call::on_chips))]
 pub extern "C" fn pedralume_repaint(chips: &[u8], picture: &[u8], output: &mut [u8]) -> u64
     ensures { result_of result output.new ≡ repaint_call chips.now picture.now output.old }
 {
     if chips.len() != CHIPS_BYTES {
-        return pack(1, 0, 0, 0);
+        return pack(Refusal::WrongSize.number(), 0, 0, 0);
     }
-    let both = chips_in(chips);
-    let left = both.left;
-    let right = both.right;
-    let painted = repaint::repaint(left, right, picture, output);
-    pack(painted.number, painted.place, 0, 0)
+    pack_verdict(repaint::repaint(chips_in(chips), picture, output))
 }
 
 // The records of a sparing repaint, which brings a picture to the panel of the chips' bytes and the image, into an output
 // buffer.
 #[unsafe(no_mangle)]
+#[tactic(auto, using(crate::proofs::OnChips::call_cases), unfolding(crate::specs::Call::on_chips))]
 pub extern "C" fn pedralume_sparing_repaint(
     chips: &[u8],
     ram: &[u8],
@@ -74,17 +71,14 @@ pub extern "C" fn pedralume_sparing_repaint(
         ≡ sparing_call chips.now ram.now picture.now output.old }
 {
     if chips.len() != CHIPS_BYTES {
-        return pack(1, 0, 0, 0);
+        return pack(Refusal::WrongSize.number(), 0, 0, 0);
     }
-    let both = chips_in(chips);
-    let left = both.left;
-    let right = both.right;
-    let spared = repaint::sparing::sparing_repaint(left, right, ram, picture, output);
-    pack(spared.number, spared.place, 0, 0)
+    pack_verdict(repaint::sparing::sparing_repaint(chips_in(chips), ram, picture, output))
 }
 
 // The records of a trace that changed what the panel shows, on the chips' bytes and the image, into a buffer of entries.
 #[unsafe(no_mangle)]
+#[tactic(auto, using(crate::proofs::OnChips::call_cases), unfolding(crate::specs::Call::on_chips))]
 pub extern "C" fn pedralume_changes(
     chips: &[u8],
     ram: &[u8],
@@ -95,11 +89,7 @@ pub extern "C" fn pedralume_changes(
         ≡ changes_call chips.now ram.now trace.now entries.old }
 {
     if chips.len() != CHIPS_BYTES {
-        return pack(1, 0, 0, 0);
+        return pack(Refusal::WrongSize.number(), 0, 0, 0);
     }
-    let both = chips_in(chips);
-    let left = both.left;
-    let right = both.right;
-    let listed = visible::changes(left, right, ram, trace, entries);
-    pack(listed.number, listed.place, 0, 0)
+    pack_verdict(visible::changes(chips_in(chips), ram, trace, entries))
 }

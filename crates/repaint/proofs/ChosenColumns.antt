@@ -60,16 +60,14 @@ module _ (test : ℕ → Bool) where
   abbrev pub columns_cycles : ℕ → ℕ
   columns_cycles n = count_below (begins test) n + count_below test n
 
-  cycles-next : (n : ℕ) → columns_cycles (n + 1) ≡ columns_cycles n + column_cycles (passes_before test n) (test n)
-  cycles-next n = omega (arith, sum-next (λ i. if (begins test i) 1 0) n, sum-next (λ i. if (test i) 1 0) n)
+  cycles-next : (n : ℕ) → columns_cycles (suc n) ≡ columns_cycles n + column_cycles (passes_before test n) (test n)
+  cycles-next n = rw (← add-one n) (omega (arith, sum-next (λ i. if (begins test i) 1 0) n, sum-next (λ i. if (test i) 1 0) n))
 
   -- one for each column, and one more where the last of them passes
   pub cycles-few : (n : ℕ) → columns_cycles n ≤ n + if (passes_before test n) 1 0
   unfolding sum_below
   cycles-few zero = omega arith
-  cycles-few (suc n) =
-      let next = rw (add-one n) at (cycles-next n) in
-      step (passes_before test n) (test n) next (cycles-few n)
+  cycles-few (suc n) = step (passes_before test n) (test n) (cycles-next n) (cycles-few n)
     where
       step : (before here : Bool) {all so_far : ℕ} → all ≡ so_far + column_cycles before here → so_far ≤ n + if before 1 0 → all ≤ suc n + if here 1 0
       step true true e h = omega arith
@@ -90,11 +88,10 @@ module _ (test : ℕ → Bool) where
     columns-length zero = refl
     columns-length (suc n) =
         let f = column_records c k picture r test in
-        let next = rw (add-one n) at (cycles-next n) in
         let more = rw (add-one n) at (joined-next f n) in
         ap length more
         ∙ length-append (chosen_columns c k picture r test 0 n) (f n)
-        ∙ rw (columns-length n, column-length c k picture r (passes_before test n) (test n) n, next)
+        ∙ rw (columns-length n, column-length c k picture r (passes_before test n) (test n) n, cycles-next n)
 
     pub chosen-length : length (chosen_page c k picture r test) ≡ chosen_cycles test
     unfolding chosen_page chosen_cycles

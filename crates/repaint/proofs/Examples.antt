@@ -23,7 +23,8 @@ module _ (left right : Chip) (picture buffer : List ℕ) (at : LeftReverse left 
   begins = rw (written, at.left-line, at.reverse)
 
   -- the bytes after those of the pages
-  turns : drop 1008 (records_bytes (repaint_records left right picture) ++ drop 1016 buffer) ≡ records_bytes (line_turns left right) ++ drop 1016 buffer
+  turns : drop 1008 (records_bytes (repaint_records left right picture) ++ drop 1016 buffer)
+      ≡ records_bytes (line_turns left right) ++ drop 1016 buffer
   unfolding repaint_records
   turns =
       let pages = hidden_pages left right picture in

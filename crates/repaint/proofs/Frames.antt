@@ -3,8 +3,8 @@ use Prim.Native.Nat.{ℕ}
 use mathlib.Core.Path.{◌≡◌, ap, ◌∙◌}
 use mathlib.Core.List.{List}
 use lib.ListN.{length, replicate, length-replicate}
-use Rattle.basics.specs.Verdict.{verdict, Result, result_of}
-use Rattle.basics.specs.declared.verdict.Verdict.{Verdict}
+use Rattle.basics.specs.Verdict.{verdict, CallResult, result_of}
+use Rattle.basics.specs.Verdict.{Verdict}
 use Rattle.panel.specs.Panel.{Panel}
 use Rattle.frame.specs.Frame.{frame_length, frame_of, framed}
 use Rattle.frame.proofs.FrameCases.{every-frame-given}
@@ -18,7 +18,7 @@ module _ (p : Panel) (ready : BothReady p) where
 
   pub shown-frame : shown p ≡ frame_of p
   unfolding shown
-  shown-frame = ap (λ (o : Result Verdict (List ℕ)). o.lent) (call (replicate frame_length 0) (length-replicate {A = ℕ} frame_length 0))
+  shown-frame = ap (λ (o : CallResult Verdict (List ℕ)). o.lent) (call (replicate frame_length 0) (length-replicate {A = ℕ} frame_length 0))
 
   pub frame-given : FrameGiven p
   frame-given = record { bytes = rw shown-frame (half-laws.whole p); given = λ buffer size. call buffer size ∙ rw shown-frame }

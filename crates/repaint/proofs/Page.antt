@@ -78,7 +78,8 @@ module _ (p : Panel) (ready : BothReady p) (picture : List ℕ) where
   module _
       (k : ℕ) (chip : k < 2) (r : ℕ) (band : r < 2) (test : ℕ → Bool) (q : Panel) (quiet : Quiet p q)
       (equal : (j : ℕ) → j < segments → test j ≡ false
-      → byte_at (ram_at q k) (hidden_page (chip_at p k) r) (lowest_column (chip_at p k) + j) ≡ picture_byte picture k (column_segment (chip_at p k) j) r) where
+      → byte_at (ram_at q k) (hidden_page (chip_at p k) r) (lowest_column (chip_at p k) + j)
+      ≡ picture_byte picture k (column_segment (chip_at p k) j) r) where
     abbrev c : Chip
     c = chip_at p k
 

@@ -25,7 +25,8 @@ use Rattle.repaint.proofs.Plan.{Plan}
 module _
     (p : Panel) (ready : BothReady p) (picture : List ℕ) (test : ℕ → ℕ → ℕ → Bool)
     (equal : (k r j : ℕ) → test k r j ≡ false
-    → byte_at (ram_at p k) (hidden_page (chip_at p k) r) (lowest_column (chip_at p k) + j) ≡ picture_byte picture k (column_segment (chip_at p k) j) r) where
+    → byte_at (ram_at p k) (hidden_page (chip_at p k) r) (lowest_column (chip_at p k) + j)
+    ≡ picture_byte picture k (column_segment (chip_at p k) j) r) where
   -- the records of a hidden page, by chip and band
   abbrev page : ℕ → ℕ → List Record
   page k r = chosen_page (chip_at p k) k picture r (test k r)
@@ -45,7 +46,8 @@ module _
 
   -- a page that holds what it held when the repaint began
   next : (k r : ℕ) → k < 2 → r < 2 → (q : Panel) → Quiet p q
-      → ((column : ℕ) → column < 80 → byte_at (ram_at q k) (hidden_page (chip_at p k) r) column ≡ byte_at (ram_at p k) (hidden_page (chip_at p k) r) column)
+      → ((column : ℕ) → column < 80
+      → byte_at (ram_at q k) (hidden_page (chip_at p k) r) column ≡ byte_at (ram_at p k) (hidden_page (chip_at p k) r) column)
       → Painted p ready picture (page k r) q (after q (page k r)) k r
   next k r side band q quiet same =
       painted p ready picture k side r band (test k r) q quiet

@@ -131,7 +131,8 @@ quiet_frame p q ready quiet =
 -- a record that leaves what its chip shows, its mode and the shown bytes leaves the panel quiet
 pub quiet-moved : (p q s : Panel) (k : ℕ) (next : PaintRegisters) (bytes : List ℕ) → Quiet p q → Moved q s k next bytes
     → shown_by (chip_at q k) ≡ next.shown → (chip_at q k).modify ≡ next.modify
-    → ((r column : ℕ) → r < 2 → column < 80 → byte_at bytes (shown_page (chip_at p k) r) column ≡ byte_at (ram_at q k) (shown_page (chip_at p k) r) column)
+    → ((r column : ℕ) → r < 2 → column < 80
+    → byte_at bytes (shown_page (chip_at p k) r) column ≡ byte_at (ram_at q k) (shown_page (chip_at p k) r) column)
     → Quiet p s
 quiet-moved p q s k next bytes quiet move shown modify kept =
     record {

@@ -10,8 +10,8 @@ use lib.ListN.{length, drop}
 use borrow.Author.Rules.{rules}
 use borrow.Author.Tests.{eqb-true, eq-eqb, ltb-false, le-ltb, not-false}
 use Rattle.basics.specs.Table.{Cause, First, NoneHolds}
-use Rattle.basics.specs.Verdict.{verdict, Result, result_of}
-use Rattle.basics.specs.declared.verdict.Verdict.{Verdict}
+use Rattle.basics.specs.Verdict.{verdict, CallResult, result_of}
+use Rattle.basics.specs.Verdict.{Verdict}
 use Rattle.basics.proofs.Table.{first-refuses, none-refuses, refusing-line, passing-table}
 use Rattle.basics.proofs.Tests.{tested, neither}
 use Rattle.sed1520.specs.Records.{records_bytes}
@@ -59,7 +59,7 @@ module _ (left right : Chip) (picture buffer : List ℕ) where
   abbrev table : List Cause
   table = repaint_table left right (length picture) (length buffer)
 
-  abbrev given : Result Verdict (List ℕ)
+  abbrev given : CallResult Verdict (List ℕ)
   given = result_of (verdict 0 254) (records_bytes (repaint_records left right picture) ++ drop 1016 buffer)
 
   -- every place fits 16 bits

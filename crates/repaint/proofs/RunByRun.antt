@@ -15,7 +15,7 @@ use Rattle.frame.specs.Frame.{segments}
 use Rattle.repaint.specs.Repaint.{run_records}
 use Rattle.repaint.specs.Sparing.{passes_before, column_records, chosen_columns, next_column}
 use Rattle.repaint.proofs.ChosenColumns.{run-columns, gap-columns}
-use Rattle.repaint.proofs.NextColumn.{next-is}
+use Rattle.repaint.proofs.NextColumn.{Next, next-is}
 
 -- a run begins at column j, unless that is past the last
 pub record Begins (test : ℕ → Bool) (j : ℕ) : Type 0 where
@@ -65,32 +65,33 @@ module _ (test : ℕ → Bool) where
   -- the next run from a column on, at which one begins only if no column passes just before it: where it begins, and the columns up to there
   module _ (from at : ℕ) (inside : from ≤ segments) (is : at ≡ next_column test from (segments - from))
       (first : from < segments → test from ≡ true → passes_before test from ≡ false) where
+    searched : Next test from (segments - from) at
+    searched = next-is test from (segments - from) is
+
     pub run-begins : Begins test at
     run-begins =
-        let next = next-is test from (segments - from) is in
-        let to = next.to in
+        let to = searched.to in
         record {
           within = omega arith;
-          passes = λ h. next.found (omega arith);
+          passes = λ h. searched.found (omega arith);
           unpreceded = λ h.
-              unpreceded at from next.from next.before
-              (λ e. let found = next.found (omega arith) in rw e (first (omega arith) (rw e at found)));
+              unpreceded at from searched.from searched.before
+              (λ e. let found = searched.found (omega arith) in rw e (first (omega arith) (rw e at found)));
         }
 
     pub gap-passed : from ≤ at
-    gap-passed = let next = next-is test from (segments - from) is in next.from
+    gap-passed = searched.from
 
     pub gap-records : (c : Chip) (k : ℕ) (picture : List ℕ) (r : ℕ)
         → chosen_columns c k picture r test 0 at ≡ chosen_columns c k picture r test 0 from
     gap-records c k picture r =
-        let next = next-is test from (segments - from) is in
         let f = column_records c k picture r test in
-        let h = next.from in
+        let h = searched.from in
         let all : at ≡ from + (at - from) = omega arith in
         let here : 0 + from ≡ from = omega arith in
         ap (λ n. chosen_columns c k picture r test 0 n) all
         ∙ joined-split f 0 from (at - from)
-        ∙ rw (here, gap-columns c k picture r test (at - from) from (λ i l b. next.before i l (omega arith)), append-nil)
+        ∙ rw (here, gap-columns c k picture r test (at - from) from (λ i l b. searched.before i l (omega arith)), append-nil)
 
   -- a run written after the columns before it
   pub run-added : (c : Chip) (k : ℕ) (picture : List ℕ) (r j : ℕ) → passes_before test j ≡ false

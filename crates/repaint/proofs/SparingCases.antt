@@ -9,8 +9,8 @@ use lib.Dec.{eqb}
 use lib.ListN.{length, drop, length-append}
 use borrow.Author.Rules.{rules}
 use Rattle.basics.specs.Table.{Cause}
-use Rattle.basics.specs.Verdict.{verdict, Result, result_of}
-use Rattle.basics.specs.declared.verdict.Verdict.{Verdict}
+use Rattle.basics.specs.Verdict.{verdict, CallResult, result_of}
+use Rattle.basics.specs.Verdict.{Verdict}
 use Rattle.basics.proofs.Tests.{neither, no_other}
 use Rattle.basics.proofs.Table.{first-refuses, none-refuses, call-exactly, call-place}
 use Rattle.sed1520.specs.Records.{records_bytes}
@@ -33,7 +33,7 @@ module _ (p : Panel) (picture buffer : List ℕ) where
   abbrev table : List Cause
   table = sparing_table p.left p.right (length p.ram) (length picture) (length buffer)
 
-  abbrev given : Result Verdict (List ℕ)
+  abbrev given : CallResult Verdict (List ℕ)
   given = let n = sparing_cycles p picture in result_of (verdict 0 n) (records_bytes (sparing_records p picture) ++ drop (4 * n) buffer)
 
   -- no place is over 254

@@ -3,8 +3,8 @@ use Rattle.std.specs.Prelude.{ℕ, ◌+◌, ◌-◌, ◌*◌, Bool, not, ◌&&�
 use Rattle.basics.specs.Choice.{if}
 use Rattle.basics.specs.Lists.{tabulated}
 use Rattle.basics.specs.Table.{Cause, cause, left_then_right, unless_refused, verdict_by}
-use Rattle.basics.specs.Verdict.{verdict, Result, result_of}
-use Rattle.basics.specs.declared.verdict.Verdict.{Verdict}
+use Rattle.basics.specs.Verdict.{verdict, CallResult, result_of}
+use Rattle.basics.specs.Verdict.{Verdict}
 use Rattle.sed1520.specs.Chip.{column_stop, out_of_range}
 use Rattle.sed1520.specs.Command.{first}
 use Rattle.sed1520.specs.Laws.{sent}
@@ -125,7 +125,7 @@ abbrev pub repaint_table : Chip → Chip → ℕ → ℕ → List Cause
 repaint_table left right picture buffer = cause 1 0 (repaint_sizes_wrong picture buffer) ∷ ready_table left right
 
 -- the repaint's call: its numbers, which leave the buffer as it came, else the records, with the rest of a longer buffer as it was
-unfoldable pub repaint_of : Chip → Chip → List ℕ → List ℕ → Result Verdict (List ℕ)
+unfoldable pub repaint_of : Chip → Chip → List ℕ → List ℕ → CallResult Verdict (List ℕ)
 repaint_of left right picture buffer =
     unless_refused (repaint_table left right (length picture) (length buffer)) (λ n at. result_of (verdict n at) buffer)
     (result_of (verdict 0 repaint_cycles) (records_bytes (repaint_records left right picture) ++ drop output_length buffer))

@@ -5,8 +5,8 @@ use Rattle.basics.specs.Choice.{if}
 use Rattle.basics.specs.Counts.{count_below}
 use Rattle.basics.specs.Lists.{joined, tabulated}
 use Rattle.basics.specs.Table.{Cause, cause, unless_refused}
-use Rattle.basics.specs.Verdict.{verdict, Result, result_of}
-use Rattle.basics.specs.declared.verdict.Verdict.{Verdict}
+use Rattle.basics.specs.Verdict.{verdict, CallResult, result_of}
+use Rattle.basics.specs.Verdict.{Verdict}
 use Rattle.sed1520.specs.Memory.{byte_at}
 use Rattle.sed1520.specs.Records.{records_bytes}
 use Rattle.sed1520.specs.declared.registers.Chip.{Chip}
@@ -86,13 +86,13 @@ sparing_table left right ram picture buffer = cause 1 0 (sparing_sizes_wrong ram
 
 -- the sparing repaint's call: its numbers, which leave the buffer as it came, else the records, with the count of cycles as place (CyclesCounted:
 -- they are as many) and the rest of the buffer as it was
-unfoldable pub sparing_of : Panel → List ℕ → List ℕ → Result Verdict (List ℕ)
+unfoldable pub sparing_of : Panel → List ℕ → List ℕ → CallResult Verdict (List ℕ)
 sparing_of p picture buffer =
     unless_refused (sparing_table p.left p.right (length p.ram) (length picture) (length buffer)) (λ n at. result_of (verdict n at) buffer)
     (result_of (verdict 0 (sparing_cycles p picture)) (records_bytes (sparing_records p picture) ++ drop (4 * sparing_cycles p picture) buffer))
 
 -- what a function gives that puts records to the front of a buffer with room for them: how many bytes they are, and the rest as it was
-abbrev pub put_front : List Record → List ℕ → Result ℕ (List ℕ)
+abbrev pub put_front : List Record → List ℕ → CallResult ℕ (List ℕ)
 put_front records buffer = result_of (4 * length records) (records_bytes records ++ drop (4 * length records) buffer)
 
 -- the first of n columns, from column j on, that passes a test, or the one past them

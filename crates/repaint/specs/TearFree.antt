@@ -4,8 +4,8 @@
 -- before it left the panel, each stopped after any whole cycle.
 use Rattle.std.specs.Prelude.{ℕ, ◌+◌, ◌*◌, ◌≤◌, ◌<◌, ◌≡◌, Bool, true, false, ◌||◌, List, [], ◌∷◌, ◌++◌, eqb, ltb, length, get_or, drop, replicate}
 use Rattle.basics.specs.Choice.{if}
-use Rattle.basics.specs.Verdict.{verdict, Result, result_of}
-use Rattle.basics.specs.declared.verdict.Verdict.{Verdict}
+use Rattle.basics.specs.Verdict.{verdict, CallResult, result_of}
+use Rattle.basics.specs.Verdict.{Verdict}
 use Rattle.sed1520.specs.Chip.{in_range}
 use Rattle.panel.specs.Panel.{image_length, Panel, outcome_of, after}
 use Rattle.sed1520.specs.Records.{front, records_in}
@@ -34,7 +34,7 @@ pub record BothReady (p : Panel) : Type 0 where
 pub record Sending : Type 0 where
   pub picture : List ℕ
   pub buffer : List ℕ
-  pub given : Result Verdict (List ℕ)
+  pub given : CallResult Verdict (List ℕ)
   pub quiet : ℕ
   pub stop : ℕ
 

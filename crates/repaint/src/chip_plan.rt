@@ -98,11 +98,9 @@ fn put_writes(chip: Chip, which: u8, picture: &[u8], band: u8, output: &mut [u8]
     ensures { output.new
         ≡ records_bytes (tabulated (column_write chip which picture.now band) 0 segments) ++ drop writes_length output.old }
 {
-    let mut j = 0;
-    while j < Chip::SEGMENTS {
+    for j in 0..Chip::SEGMENTS {
         let byte = picture_byte(picture, which, column_segment(chip, j), band);
         put_record(3, which, byte, &mut output[4 * j..]);
-        j = j + 1;
     }
 }
 

@@ -7,13 +7,16 @@ pub mod sparing;
 mod sparing_page;
 
 ghost use Rattle.std.specs.Prelude.{◌<◌, ◌≤◌, ◌≡◌, ◌++◌, length, drop};
-ghost use Rattle.basics.specs.Verdict.{result_of};
+ghost use Rattle.basics.specs.Refusals.{refused_or, verdict_of};
+ghost use Rattle.basics.specs.Verdict.{result_of, verdict};
 ghost use Rattle.sed1520.specs.Records.{records_bytes};
 ghost use Rattle.repaint.specs.Repaint.{output_length, picture_length, repaint_records, repaint_sizes_wrong, shows_no_ram, wrong_line};
-ghost use Rattle.repaint.specs.Repaint.{chips_verdict, repaint_of};
+ghost use Rattle.repaint.specs.Repaint.{chips_verdict, repaint_cycles, repaint_of};
 
 use crate::chip_plan::{put_page, put_turn};
-use basics::verdict::Verdict;
+use basics::refusal::Refusal;
+use basics::verdict::{Refused, Verdict};
+use panel::chips::Chips;
 use sed1520::bus::RECORD_BYTES;
 use sed1520::registers::Chip;
 
@@ -37,55 +40,43 @@ const PAGE_BYTES: usize = RECORD_BYTES * PAGE_RECORDS;
 pub(crate) fn sizes_wrong(picture: usize, output: usize) -> bool
     ensures { result ≡ repaint_sizes_wrong picture output }
 {
-    if picture != PICTURE_BYTES {
-        return true;
-    }
-    output < OUTPUT_BYTES
+    picture != PICTURE_BYTES || output < OUTPUT_BYTES
 }
 
 // Number 9: display off, or static drive on.
 fn shows_no_ram(chip: Chip) -> bool
     ensures { result ≡ shows_no_ram chip }
 {
-    if chip.display_on {
-        chip.static_on
-    } else {
-        true
-    }
+    !chip.display_on || chip.static_on
 }
 
 // Number 11: a start line that is neither 0 nor 16.
 fn wrong_line(chip: Chip) -> bool
     ensures { result ≡ wrong_line chip }
 {
-    if chip.start_line == 0 {
-        false
-    } else {
-        chip.start_line != 16
-    }
+    chip.start_line != 0 && chip.start_line != 16
 }
 
-// Numbers 2 and 9 to 12, lowest first, left before right; else done. Built from the last test to the first: each value is
-// the answer from its number on.
-#[tactic(auto, unfolding(crate::specs::Repaint::chips_verdict))]
-pub(crate) fn chips_verdict(left: Chip, right: Chip) -> Verdict
-    ensures { result ≡ chips_verdict left right }
+// Refuses chips that are not ready for a repaint: numbers 2 and 9 to 12, lowest first, left before right.
+pub(crate) fn check_ready(chips: Chips) -> Result<(), Refused>
+    ensures { refused_or (verdict 0 repaint_cycles) result ≡ chips_verdict chips.left chips.right }
 {
-    let done = Verdict::new(0, REPAINT_RECORDS as u64);
-    let modify = Verdict::unless(left.modify, right.modify, 12, done);
-    let line = Verdict::unless(wrong_line(left), wrong_line(right), 11, modify);
-    let duty = Verdict::unless(left.duty_32, right.duty_32, 10, line);
-    let dark = Verdict::unless(shows_no_ram(left), shows_no_ram(right), 9, duty);
-    Verdict::unless(!left.in_range(), !right.in_range(), 2, dark)
+    let Chips { left, right } = chips;
+    chips.check_range()?;
+    Refusal::ShowsNoRam.of_either(shows_no_ram(left), shows_no_ram(right))?;
+    Refusal::LongDuty.of_either(left.duty_32, right.duty_32)?;
+    Refusal::OtherStartLine.of_either(wrong_line(left), wrong_line(right))?;
+    Refusal::InModify.of_either(left.modify, right.modify)
 }
 
 // The 254 records of a repaint, written to the front of the output buffer.
-fn put_records(left: Chip, right: Chip, picture: &[u8], output: &mut [u8])
+fn put_records(chips: Chips, picture: &[u8], output: &mut [u8])
     requires picture_len { length picture.now ≡ picture_length }
     requires output_length_in_bounds { output_length ≤ length output.old }
     ensures { output.new
-        ≡ records_bytes (repaint_records left right picture.now) ++ drop output_length output.old }
+        ≡ records_bytes (repaint_records chips.left chips.right picture.now) ++ drop output_length output.old }
 {
+    let Chips { left, right } = chips;
     put_page(left, 0, picture, 0, output);
     put_page(left, 0, picture, 1, &mut output[PAGE_BYTES..]);
     put_page(right, 1, picture, 0, &mut output[2 * PAGE_BYTES..]);
@@ -95,16 +86,14 @@ fn put_records(left: Chip, right: Chip, picture: &[u8], output: &mut [u8])
 }
 
 // The repaint of a picture on two chips, into an output buffer of at least 1,016 bytes.
-#[tactic(auto, using(crate::proofs::RepaintCases::call_cases))]
-pub fn repaint(left: Chip, right: Chip, picture: &[u8], output: &mut [u8]) -> Verdict
-    ensures { result_of result output.new ≡ repaint_of left right picture.now output.old }
+pub fn repaint(chips: Chips, picture: &[u8], output: &mut [u8]) -> Verdict
+    ensures { result_of (verdict_of result) output.new
+        ≡ repaint_of chips.left chips.right picture.now output.old }
 {
     if sizes_wrong(picture.len(), output.len()) {
-        return Verdict::new(1, 0);
+        return Err(Refused::new(Refusal::WrongSize, 0));
     }
-    let verdict = chips_verdict(left, right);
-    if verdict.number == 0 {
-        put_records(left, right, picture, output);
-    }
-    verdict
+    check_ready(chips)?;
+    put_records(chips, picture, output);
+    Ok(REPAINT_RECORDS as u64)
 }

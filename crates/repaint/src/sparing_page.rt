@@ -34,14 +34,9 @@ fn next_changed(chip: Chip, which: u8, ram: &[u8], picture: &[u8], band: u8, fro
     requires band_bound { band < 2 }
     ensures { result ≡ next_column (differs chip which ram.now picture.now band) from (segments - from) }
 {
-    let mut j = from;
-    while j < Chip::SEGMENTS {
-        if column_differs(chip, which, ram, picture, band, j) {
-            return j;
-        }
-        j = j + 1;
-    }
-    j
+    (from..Chip::SEGMENTS)
+        .find(|&j| column_differs(chip, which, ram, picture, band, j))
+        .unwrap_or(from.max(Chip::SEGMENTS))
 }
 
 // The data writes of the run that begins at `from`, up to the first column that does not differ; gives how many bytes they
@@ -65,15 +60,13 @@ fn put_run_writes(
         output.old }
 {
     let mut bytes = 0;
-    let mut column = from;
-    while column < Chip::SEGMENTS {
+    for column in from..Chip::SEGMENTS {
         if !column_differs(chip, which, ram, picture, band, column) {
             return bytes;
         }
         let byte = picture_byte(picture, which, column_segment(chip, column), band);
         put_record(3, which, byte, &mut output[bytes..]);
         bytes = bytes + RECORD_BYTES;
-        column = column + 1;
     }
     bytes
 }

@@ -73,11 +73,11 @@ pub record FromFresh (trace answers' : List ℕ) (done : Tally) : Type 0 where
   pub tally : done ≡ (replay_of start trace blank_answers).answer
   pub answers : answers' ≡ (replay_of start trace blank_answers).lent.answers
 
-pub from-fresh : {trace chips chips' ram' answers' : List ℕ} {left right : Chip} {done : Tally}
+pub from-fresh : (trace : List ℕ) {chips chips' ram' answers' : List ℕ} {left right : Chip} {done : Tally}
     → left ≡ fresh → right ≡ fresh → chips ≡ chips_bytes left right
     → in_place done chips' ram' answers' ≡ replay_in_place chips (replicate image_length 0) trace blank_answers
     → FromFresh trace answers' done
-from-fresh {trace} {chips} {chips'} {ram'} {answers'} {left} {right} {done} is-left is_right bytes ends =
+from-fresh trace {chips} {chips'} {ram'} {answers'} {left} {right} {done} is-left is_right bytes ends =
     let whole = by_value left right chips (replicate image_length 0) trace blank_answers (in_place done chips' ram' answers') bytes ends in
     let same = rw (is-left, is_right) at whole in
     record { tally = ap (λ (o : ReplayOutcome). o.answer) same; answers = ap (λ (o : ReplayOutcome). o.lent.answers) same }

@@ -9,10 +9,10 @@ ghost use Rattle.console.specs.Text.{Put};
 ghost use Rattle.replay.specs.Text.{answers_given, program_text};
 
 use crate::text::put_lines;
-use console::input::{Input, read_input};
+use console::input::read_input;
 use console::text::{put_end, refused_before};
 use console::{ANSWERS_BYTES, INPUT_BYTES};
-use panel::chips::{IMAGE_BYTES, chips_bytes};
+use panel::chips::{Chips, IMAGE_BYTES, chips_bytes};
 use sed1520::registers::Chip;
 use std::io::Print;
 
@@ -42,7 +42,10 @@ fn listing(trace: &[u8], out: &mut [u8]) -> usize
     ensures put { Put out.old out.new 0 result (program_text trace.now) }
     ensures value { result ≡ length (program_text trace.now) }
 {
-    let mut chips = chips_bytes(Chip::fresh(), Chip::fresh());
+    let mut chips = chips_bytes(Chips {
+        left: Chip::fresh(),
+        right: Chip::fresh(),
+    });
     let mut ram = [0; IMAGE_BYTES];
     let mut answers = [0; ANSWERS_BYTES];
     let done = trace::replay_in_place(&mut chips, &mut ram, trace, &mut answers);
@@ -61,7 +64,7 @@ fn listing(trace: &[u8], out: &mut [u8]) -> usize
 // prints no whole end line.
 fn main(rt: HostRuntime) {
     let mut trace = [0; INPUT_BYTES];
-    let Input::Read(count) = read_input(&mut rt.stdin(), &mut trace) else {
+    let Ok(count) = read_input(&mut rt.stdin(), &mut trace) else {
         return;
     };
     let mut out = text_buffer();

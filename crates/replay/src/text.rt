@@ -6,6 +6,7 @@ ghost use Rattle.replay.specs.Text.{hex_digit, hex_digits, answer_line, answer_l
 use console::text::{put_bytes, put_next, put_number};
 
 // A hexadecimal digit.
+#[tactic(auto, unfolding(crate::specs::Text::hex_digit))]
 fn hex_digit(n: u8) -> u8
     requires { n < 16 }
     ensures { result ≡ hex_digit n }
@@ -36,8 +37,7 @@ pub(crate) fn put_lines(out: &mut [u8], answers: &[u8], count: usize) -> usize
     ensures { Put out.old out.new 0 result (answer_lines answers.now count) }
 {
     let mut at = 0;
-    let mut index = 0;
-    while index < count {
+    for index in 0..count {
         at = put_line(
             out,
             at,
@@ -45,7 +45,6 @@ pub(crate) fn put_lines(out: &mut [u8], answers: &[u8], count: usize) -> usize
             answers[2 * index],
             answers[2 * index + 1],
         );
-        index = index + 1;
     }
     at
 }

@@ -3,36 +3,46 @@ use Prim.Native.Nat.{ℕ, ◌+◌, ◌<◌, ◌≤◌}
 use mathlib.Core.Path.{◌≡◌, refl, ◌∙◌}
 use mathlib.Core.Bool.{true, false}
 use mathlib.Core.List.{List}
-use mathlib.Core.Option.{none, some}
+use Rattle.std.specs.Prelude.{None, Some, Result, Ok, Err}
 use lib.Dec.{ltb}
 use lib.ListN.{set}
 use borrow.Author.Tests.{lt-ltb, le-ltb, ne_eqb}
 use Rattle.basics.specs.Choice.{if}
 use Rattle.basics.proofs.Tests.{when}
-use Rattle.sed1520.specs.Chip.{stale, staled, with_column, with_latch}
+use Rattle.sed1520.specs.Chip.{latched, read_kind, stale, staled, with_column, with_latch}
 use Rattle.sed1520.specs.Command.{decode_of, coded_command}
 use Rattle.sed1520.specs.Memory.{ram_index, image_index, byte_at}
+use Rattle.sed1520.specs.Cycle.{kind_of, byte_of, read_of}
 use Rattle.sed1520.specs.Cycle.{Outcome, outcome, refusal, answered, wrote_to, execute, column_refusal, command_write, data_write, after_read}
 use Rattle.sed1520.specs.declared.registers.Chip.{Chip}
-use Rattle.sed1520.specs.declared.registers.ReadLatch.TheVariants.{Fresh}
+use Rattle.sed1520.specs.declared.registers.ReadLatch.{ReadLatch}
+use Rattle.sed1520.specs.declared.registers.ReadLatch.TheVariants.{Fresh, Stale}
 use Rattle.sed1520.specs.declared.commands.Command.{Command}
-use Rattle.sed1520.specs.declared.commands.Decoded.{Decoded}
-use Rattle.sed1520.specs.declared.commands.Decoded.TheVariants.{Known, Unknown}
+use Rattle.sed1520.specs.declared.commands.UnknownByte.{UnknownByte}
+
+-- what a data read answers: the latch's kind and byte
+pub read-kind : (latch : ReadLatch) → kind_of (read_of latch) ≡ read_kind latch
+read-kind (Fresh b) = refl
+read-kind (Stale b) = refl
+
+pub read-byte : (latch : ReadLatch) → byte_of (read_of latch) ≡ latched latch
+read-byte (Fresh b) = refl
+read-byte (Stale b) = refl
 
 -- what the cases of a decoded byte say
-pub known-command : (d : Decoded) (b : ℕ) (m : Command) → coded_command d ≡ decode_of b → d ≡ Known m → (decode_of b).value ≡ some m
+pub known-command : (d : Result Command UnknownByte) (b : ℕ) (m : Command) → coded_command d ≡ decode_of b → d ≡ Ok m → (decode_of b).value ≡ Some m
 known-command d b m e k = rw (← e, k)
 
-pub no-command : (d : Decoded) (b at : ℕ) → coded_command d ≡ decode_of b → d ≡ Unknown at → (decode_of b).value ≡ none
-no-command d b at e k = rw (← e, k)
+pub no-command : (d : Result Command UnknownByte) (b : ℕ) (u : UnknownByte) → coded_command d ≡ decode_of b → d ≡ Err u → (decode_of b).value ≡ None
+no-command d b u e k = rw (← e, k)
 
 module _ (b : ℕ) (c : Chip) where
-  pub command-executed : (m : Command) → (decode_of b).value ≡ some m → column_refusal b c.modify ≡ 0
+  pub command-executed : (m : Command) → (decode_of b).value ≡ Some m → column_refusal b c.modify ≡ 0
       → command_write b c ≡ answered 0 0 (execute m.opcode m.argument c)
   unfolding command_write
   command-executed m known free = rw (known, free)
 
-  pub command-refused : (m : Command) → (decode_of b).value ≡ some m → (column_refusal b c.modify ≡ 0 → ⊥)
+  pub command-refused : (m : Command) → (decode_of b).value ≡ Some m → (column_refusal b c.modify ≡ 0 → ⊥)
       → command_write b c ≡ refusal (column_refusal b c.modify) c
   unfolding command_write
   command-refused m known held = rw known (rw (ne_eqb (column_refusal b c.modify) 0 held))

@@ -4,7 +4,7 @@ use Prim.Native.Nat.{ℕ}
 use mathlib.Core.Path.{◌≡◌, refl, ap, ◌∙◌}
 use mathlib.Core.List.{List, [], ◌∷◌}
 use mathlib.Core.Logic.{⊎_elim}
-use mathlib.Core.Option.{Option, none, some}
+use Rattle.std.specs.Prelude.{Option, None, Some}
 use lib.Dec.{ltb, eqb}
 use lib.ListN.{length, get_or, set, length-set}
 use borrow.Author.Tests.{eqb-true, eqb-false}
@@ -17,7 +17,7 @@ use Rattle.sed1520.specs.Command.{decode_of}
 use Rattle.sed1520.specs.Cycle.{Outcome, outcome, bus_refusal, column_refusal, execute, executed, command_write, data_write, after_read, data_read}
 use Rattle.sed1520.specs.Cycle.{address_line, write_line, status_byte, action_of, step_of, Reply, reply_of, as_step}
 use Rattle.sed1520.specs.Promises.{EveryBytesStep}
-use Rattle.sed1520.specs.declared.actions.Answer.{Answer}
+use Rattle.sed1520.specs.Cycle.{Answer}
 use Rattle.sed1520.specs.declared.bus.Record.{Record}
 use Rattle.sed1520.specs.declared.commands.Command.{Command}
 use Rattle.sed1520.specs.declared.commands.Opcode.{Opcode}
@@ -41,8 +41,8 @@ unfolding command_write
 command-reply b c = decoded (decode_of b).value
   where
     decoded : (o : Option Command) → reply_of (executed b o c) ≡ reply 0 0
-    decoded none = refl
-    decoded (some m) = when (λ (a : Answer). reply_of a ≡ reply 0 0) (eqb (column_refusal b c.modify) 0) (λ _. refl) (λ _. refl)
+    decoded None = refl
+    decoded (Some m) = when (λ (a : Answer). reply_of a ≡ reply 0 0) (eqb (column_refusal b c.modify) 0) (λ _. refl) (λ _. refl)
 
 module _ (s : BytesAndRam) (r : Record) where
   abbrev own : Chip
@@ -107,8 +107,8 @@ module _ (c : Chip) (ram : List ℕ) where
   command-stored b = decoded (decode_of b).value
     where
       decoded : (o : Option Command) → AllStored (set_by_command o c.modify) (executed b o c)
-      decoded none = refl
-      decoded (some m) =
+      decoded None = refl
+      decoded (Some m) =
           when (AllStored (set_by m.opcode c.modify)) (eqb (column_refusal b c.modify) 0)
           (λ _. execute-stored m.opcode m.argument) (λ no. rw no)
 

@@ -6,7 +6,8 @@ use mathlib.Core.Path.{◌≡◌, refl, ap}
 use mathlib.Core.Bool.{Bool, true, false, ◌&&◌, ◌||◌, and-false, false≢true}
 use mathlib.Core.Logic.{⊎_elim}
 use mathlib.Core.List.{List, [], ◌∷◌}
-use mathlib.Core.Option.{none, some, none-ne-some, some-injective}
+use Rattle.std.specs.Prelude.{None, Some}
+use Rattle.std.proofs.lemmas.Option.{none-some, same_Some}
 use lib.Dec.{ltb, leb, eqb}
 use borrow.Author.Rules.{rules}
 use borrow.Author.Tests.{lt-ltb, le-ltb, le-leb, lt-leb, leb-true, ltb-true, eqb-true}
@@ -31,7 +32,7 @@ outside k lo hi b l h t =
     (λ above. let p = leb-true (first k + count k) lo above in simp (le-ltb b (first k + count k) (omega arith), and-false))
     (either (ltb hi (first k)) (leb (first k + count k) lo) t)
 
-pub none_between : (ks : List Opcode) (lo hi b : ℕ) → lo ≤ b → b ≤ hi → (apart_from lo hi ks) ≡ true → among ks b ≡ none
+pub none_between : (ks : List Opcode) (lo hi b : ℕ) → lo ≤ b → b ≤ hi → (apart_from lo hi ks) ≡ true → among ks b ≡ None
 unfolding among
 none_between [] lo hi b l h t = refl
 none_between (k ∷ ks) lo hi b l h t =
@@ -46,7 +47,7 @@ reached k (j ∷ js) = eqb (first j) (first k) || (apart (first k) (first k + co
 -- what is computed of each opcode: the list reaches it, its first byte is decoded as it, and its last one fits a byte
 record Computed (k : Opcode) : Type 0 where
   listed : reached k opcodes ≡ true
-  at_first : among opcodes (first k) ≡ some k
+  at_first : among opcodes (first k) ≡ Some k
   below-256 : first k + count k ≤ 256
 
 computed : (k : Opcode) → Computed k
@@ -65,7 +66,7 @@ computed Reset = search rules
 first-injective : (j k : Opcode) → first j ≡ first k → j ≡ k
 first-injective j k e = cc ((computed j).at_first, (computed k).at_first, ap (among opcodes) e)
 
-first_found : (k : Opcode) (ks : List Opcode) (b : ℕ) → first k ≤ b → b < first k + count k → (reached k ks) ≡ true → among ks b ≡ some k
+first_found : (k : Opcode) (ks : List Opcode) (b : ℕ) → first k ≤ b → b < first k + count k → (reached k ks) ≡ true → among ks b ≡ Some k
 unfolding among
 first_found k [] b l h t = absurd (false≢true t)
 first_found k (j ∷ js) b l h t =
@@ -76,17 +77,17 @@ first_found k (j ∷ js) b l h t =
     (either (eqb (first j) (first k)) (apart (first k) (first k + count k - 1) j && reached k js) t)
 
 -- a byte of an opcode's range is decoded as that opcode
-pub opcode-in-range : (k : Opcode) (b : ℕ) → first k ≤ b → b < first k + count k → among opcodes b ≡ some k
+pub opcode-in-range : (k : Opcode) (b : ℕ) → first k ≤ b → b < first k + count k → among opcodes b ≡ Some k
 opcode-in-range k b l h = first_found k opcodes b l h (computed k).listed
 
 -- and a byte is decoded as no other opcode
-pub range-of-opcode : (ks : List Opcode) (k : Opcode) (b : ℕ) → among ks b ≡ some k → (first k ≤ b) × (b < first k + count k)
+pub range-of-opcode : (ks : List Opcode) (k : Opcode) (b : ℕ) → among ks b ≡ Some k → (first k ≤ b) × (b < first k + count k)
 unfolding among
-range-of-opcode [] k b e = absurd (none-ne-some k e)
+range-of-opcode [] k b e = absurd (none-some k e)
 range-of-opcode (j ∷ js) k b e =
     ⊎_elim
     (λ yes. let p = both (leb (first j) b) (ltb b (first j + count j)) yes in
-    let same = some-injective j k (rw yes at e) in
+    let same = same_Some j k (rw yes at e) in
     rw (← same) (leb-true (first j) b p.0, ltb-true b (first j + count j) p.1))
     (λ no. range-of-opcode js k b (rw no at e))
     (tested (within j b))

@@ -12,7 +12,7 @@ use Rattle.sed1520.specs.Command.{first}
 use Rattle.sed1520.specs.Memory.{ram_index}
 use Rattle.sed1520.specs.Cycle.{outcome, refusal, execute, data_write, after_read, data_read, cycle_of}
 use Rattle.sed1520.specs.Promises.{Keeps, EveryCycleKeeps}
-use Rattle.sed1520.specs.declared.actions.Answer.{Answer}
+use Rattle.sed1520.specs.Cycle.{Answer}
 use Rattle.sed1520.specs.declared.registers.Chip.{Chip}
 use Rattle.sed1520.specs.declared.commands.Opcode.{Opcode}
 use Rattle.sed1520.specs.declared.commands.Opcode.TheVariants.{Display, StartLine, Page, Column, Adc, Static, Duty, Modify, End, Reset}

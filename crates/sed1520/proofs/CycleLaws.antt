@@ -9,7 +9,7 @@ use Rattle.sed1520.specs.Command.{first, count}
 use Rattle.sed1520.specs.Memory.{byte_set}
 use Rattle.sed1520.specs.Cycle.{outcome, execute, column_refusal, cycle_of}
 use Rattle.sed1520.specs.Laws.{paint_registers, sent, Fit, Accepts, CycleLaws}
-use Rattle.sed1520.specs.declared.actions.Answer.{Answer}
+use Rattle.sed1520.specs.Cycle.{Answer}
 use Rattle.sed1520.specs.declared.registers.Chip.{Chip}
 use Rattle.sed1520.specs.declared.commands.Opcode.{Opcode}
 use Rattle.sed1520.specs.declared.commands.Opcode.TheVariants.{StartLine, Page, Column}

@@ -4,14 +4,14 @@ use native.Mathlib.Omega.{arith}
 use mathlib.Core.Path.{◌≡◌, refl, sym, ◌∙◌}
 use mathlib.Core.Bool.{Bool, true, false, not, ◌&&◌, ◌||◌}
 use mathlib.Core.List.{List, [], ◌∷◌, ◌++◌}
-use mathlib.Core.Option.{Option, none, some}
+use Rattle.std.specs.Prelude.{Option, None, Some}
 use lib.Dec.{ltb, leb, eqb}
 use lib.ListN.{length}
 use borrow.Author.Tests.{eqb-true, eqb-false, ne_eqb, leb-false}
 use Rattle.basics.specs.Choice.{if}
 use Rattle.basics.specs.Table.{cause, verdict_by}
 use Rattle.basics.specs.Verdict.{verdict}
-use Rattle.basics.specs.declared.verdict.Verdict.{Verdict}
+use Rattle.basics.specs.Verdict.{Verdict}
 use Rattle.basics.proofs.Table.{each_line, EachLine, of-first, exactly-when, done-passes}
 use borrow.Author.Rules.{rules}
 use Rattle.basics.proofs.Tests.{when, when-both}
@@ -40,8 +40,8 @@ module _ (r : Record) (c : Chip) (ram : List ℕ) where
   commanded : (b : ℕ) (k : Option Opcode)
       → (executed b (as_command b k).value c).number
       ≡ (given (not (eqb (as_command b k).number 0)) (within Column b && c.modify) (within Column b && leb (first Column + column_stop) b)).number
-  commanded b none = refl
-  commanded b (some k) = sets (within Column b) c.modify (leb (first Column + column_stop) b)
+  commanded b None = refl
+  commanded b (Some k) = sets (within Column b) c.modify (leb (first Column + column_stop) b)
     where
       sets : (set modify past : Bool) → let n : ℕ = if set (if modify 8 (if past 14 0)) 0 in
           (if (eqb n 0) (answered 0 0 (execute k (b - first k) c)) (refusal n c)).number ≡ (given false (set && modify) (set && past)).number

@@ -5,7 +5,8 @@ use mathlib.Core.Path.{◌≡◌, refl, sym, ◌∙◌}
 use mathlib.Core.Bool.{true}
 use mathlib.Core.List.{List}
 use mathlib.Core.Logic.{⊎_elim}
-use mathlib.Core.Option.{Option, none, some, some-injective, none-ne-some}
+use Rattle.std.specs.Prelude.{None, Some}
+use Rattle.std.proofs.lemmas.Option.{none-some, same_Some}
 use lib.Dec.{eqb, ltb}
 use lib.ListN.{length, set, length-set}
 use lib.Seq.{get_or-set_same, get_or-set_other}
@@ -13,7 +14,7 @@ use borrow.Author.Tests.{eqb-true, eqb-false, ltb-true}
 use Rattle.basics.specs.Choice.{if}
 use Rattle.basics.proofs.Tests.{tested, when}
 use Rattle.sed1520.specs.Chip.{in_range}
-use Rattle.sed1520.specs.Cycle.{Outcome, bus_refusal, data_write, data_read, cycle_of, stored_index}
+use Rattle.sed1520.specs.Cycle.{Outcome, bus_refusal, data_write, data_read, cycle_of}
 use Rattle.sed1520.specs.Memory.{ram_index, image_index, byte_set}
 use Rattle.sed1520.specs.Stores.{finds_column, OneStored, SaidByte, EveryCycleSays}
 use Rattle.sed1520.specs.declared.registers.Chip.{Chip}
@@ -55,14 +56,11 @@ module _ (r : Record) (c : Chip) (ram : List ℕ) where
   written is pass =
       cycle-step r c ram pass.size pass.range ∙ step-action r c ram pass.asked ∙ action-data-write r c ram is
 
-  abbrev said : Option ℕ
-  said = stored_index (cycle_of r c ram).answer.stored
-
   -- any other record than a data write says nothing
-  pub other-says : (r.lines ≡ 3 → ⊥) → said ≡ none
+  pub other-says : (r.lines ≡ 3 → ⊥) → (cycle_of r c ram).answer.stored ≡ None
   unfolding data_read
   other-says other =
-      each-cycle (λ o _. stored_index o.answer.stored ≡ none) r c c ram refl refl
+      each-cycle (λ o _. o.answer.stored ≡ None) r c c ram refl refl
       (record {
         refused = λ n. refl;
         command = λ _ k a h. refl;
@@ -73,7 +71,7 @@ module _ (r : Record) (c : Chip) (ram : List ℕ) where
 
   -- what an accepted data write says, by its column, and where it leaves page and column
   pub record Written : Type 0 where
-    pub says : said ≡ if (ltb c.column 80) (some (image_index r.chip c.page c.column)) none
+    pub says : (cycle_of r c ram).answer.stored ≡ if (ltb c.column 80) (Some (image_index r.chip c.page c.column)) None
     pub page : (cycle_of r c ram).answer.chip.page ≡ c.page
     pub column : (cycle_of r c ram).answer.chip.column ≡ if (ltb c.column 80) (c.column + 1) c.column
 
@@ -86,26 +84,27 @@ module _ (r : Record) (c : Chip) (ram : List ℕ) where
       (λ t. record { says = rw e (rw t); page = rw e (rw t); column = rw e (rw t) })
       (tested (ltb c.column 80))
 
-  accepted : (cycle_of r c ram).answer.number ≡ 0 → said ≡ if (finds_column r c) (some (image_index r.chip c.page c.column)) none
+  accepted : (cycle_of r c ram).answer.number ≡ 0
+      → (cycle_of r c ram).answer.stored ≡ if (finds_column r c) (Some (image_index r.chip c.page c.column)) None
   accepted done =
       ⊎_elim
       (λ t. rw t (write-says (eqb-true r.lines 3 t) done).says)
       (λ t. rw t (other-says (eqb-false r.lines 3 t)))
       (tested (eqb r.lines 3))
 
-  pub refused : ((cycle_of r c ram).answer.number ≡ 0 → ⊥) → said ≡ none
+  pub refused : ((cycle_of r c ram).answer.number ≡ 0 → ⊥) → (cycle_of r c ram).answer.stored ≡ None
   refused h = rw ((cycle-keeps c ram r).refused h)
 
-  nothing : said ≡ none → (cycle_of r c ram).ram ≡ ram
+  nothing : (cycle_of r c ram).answer.stored ≡ None → (cycle_of r c ram).ram ≡ ram
   unfolding data_write
   nothing =
-      each-cycle (λ o _. stored_index o.answer.stored ≡ none → o.ram ≡ ram) r c c ram refl refl
+      each-cycle (λ o _. o.answer.stored ≡ None → o.ram ≡ ram) r c c ram refl refl
       (record {
         refused = λ n _. refl;
         command = λ _ k a h _. refl;
         data-write = λ _.
-            when (λ (o : Outcome). stored_index o.answer.stored ≡ none → o.ram ≡ ram) (ltb c.column 80)
-            (λ _ e. absurd (none-ne-some _ (sym e)))
+            when (λ (o : Outcome). o.answer.stored ≡ None → o.ram ≡ ram) (ltb c.column 80)
+            (λ _ e. absurd (none-some _ (sym e)))
             (λ _ _. refl);
         status-read = λ _ _. refl;
         data-read = λ _ _. refl;
@@ -121,38 +120,38 @@ module _ (r : Record) (c : Chip) (ram : List ℕ) where
       pub written : after ≡ byte_set ram c.page c.column r.byte
 
     abbrev SetsByte : Outcome → Type 0
-    SetsByte o = stored_index o.answer.stored ≡ some i → ByteSet o.ram
+    SetsByte o = o.answer.stored ≡ Some i → ByteSet o.ram
 
     sets-byte : Passed → SetsByte (cycle_of r c ram)
     unfolding data_write data_read
     sets-byte pass =
         each-cycle (λ o _. SetsByte o) r c c ram refl refl
         (record {
-          refused = λ n e. absurd (none-ne-some _ e);
-          command = λ _ k a h e. absurd (none-ne-some _ e);
+          refused = λ n e. absurd (none-some _ e);
+          command = λ _ k a h e. absurd (none-some _ e);
           data-write = λ _.
               when SetsByte (ltb c.column 80)
               (λ t e. let near = within-ram c.page c.column (ranges c pass.range).page (ltb-true c.column 80 t) in
               record {
-                index = sym (some-injective (image_index r.chip c.page c.column) i e);
+                index = sym (same_Some (image_index r.chip c.page c.column) i e);
                 chip = (asks r pass.asked).chip;
                 size = pass.size;
                 within = omega (arith, near, pass.size);
                 written = refl;
               })
-              (λ _ e. absurd (none-ne-some _ e));
-          status-read = λ _ e. absurd (none-ne-some _ e);
-          data-read = λ _ e. absurd (none-ne-some _ e);
+              (λ _ e. absurd (none-some _ e));
+          status-read = λ _ e. absurd (none-some _ e);
+          data-read = λ _ e. absurd (none-some _ e);
         })
 
-    pub byte-set : said ≡ some i → ByteSet (cycle_of r c ram).ram
+    pub byte-set : (cycle_of r c ram).answer.stored ≡ Some i → ByteSet (cycle_of r c ram).ram
     byte-set e =
         ⊎_elim
         (λ t. sets-byte (passed (eqb-true (cycle_of r c ram).answer.number 0 t)) e)
-        (λ t. absurd (none-ne-some _ (sym (refused (eqb-false (cycle_of r c ram).answer.number 0 t)) ∙ e)))
+        (λ t. absurd (none-some _ (sym (refused (eqb-false (cycle_of r c ram).answer.number 0 t)) ∙ e)))
         (tested (eqb (cycle_of r c ram).answer.number 0))
 
-    byte : said ≡ some i → SaidByte r c ram (cycle_of r c ram).ram i
+    byte : (cycle_of r c ram).answer.stored ≡ Some i → SaidByte r c ram (cycle_of r c ram).ram i
     byte e =
         let set = byte-set e in
         record {

@@ -5,7 +5,7 @@ use native.Mathlib.Omega.{arith}
 use mathlib.Core.Path.{◌≡◌, refl, sym, ap}
 use mathlib.Core.Bool.{not}
 use mathlib.Core.List.{List}
-use mathlib.Core.Option.{Option, none, some}
+use Rattle.std.specs.Prelude.{Option, None, Some}
 use lib.Dec.{eqb}
 use lib.ListN.{length}
 use borrow.Author.Tests.{eqb-true, eqb-false}
@@ -14,7 +14,7 @@ use Rattle.sed1520.specs.Chip.{in_range}
 use Rattle.sed1520.specs.Command.{first, count, decode_of}
 use Rattle.sed1520.specs.Cycle.{Outcome, outcome, refusal, answered, execute, column_refusal, executed, command_write, data_write}
 use Rattle.sed1520.specs.Cycle.{data_read, status_read, write_line, address_line, action_of, bus_refusal, step_of, cycle_of}
-use Rattle.sed1520.specs.declared.actions.Answer.{Answer}
+use Rattle.sed1520.specs.Cycle.{Answer}
 use Rattle.sed1520.specs.declared.registers.Chip.{Chip}
 use Rattle.sed1520.specs.declared.commands.Opcode.{Opcode}
 use Rattle.sed1520.specs.declared.commands.Command.{Command}
@@ -39,10 +39,10 @@ pub record EachWay (P : Outcome → Outcome → Type 0) (r : Record) (c d : Chip
 -- the tests of the cycle, number 2's and a column set's, have to answer the same for both chips
 module _ (P : Outcome → Outcome → Type 0) (r : Record) (c d : Chip) (ram : List ℕ) (range : in_range c ≡ in_range d) (mode : c.modify ≡ d.modify)
     (way : EachWay P r c d ram) where
-  each-command : r.lines ≡ 2 → (b : ℕ) (o : Option Command) → ((m : Command) → o ≡ some m → Placed m b)
+  each-command : r.lines ≡ 2 → (b : ℕ) (o : Option Command) → ((m : Command) → o ≡ Some m → Placed m b)
       → P (outcome (executed b o c) ram) (outcome (executed b o d) ram)
-  each-command lines b none h = way.refused 7
-  each-command lines b (some m) h =
+  each-command lines b None h = way.refused 7
+  each-command lines b (Some m) h =
       let same = ap (column_refusal b) mode in
       let number = column_refusal b c.modify in
       when-both (λ (a e : Answer). P (outcome a ram) (outcome e ram)) (eqb number 0) (eqb (column_refusal b d.modify) 0) (rw same)

@@ -1,14 +1,20 @@
 -- The flags, the latch's mark and the last byte of a chip's bytes: what follows from their test.
 use Prim.Native.Nat.{ℕ, ◌<◌}
-use mathlib.Core.Path.{◌≡◌}
+use mathlib.Core.Path.{◌≡◌, refl}
 use mathlib.Core.Bool.{Bool, true, false, ◌||◌, false≢true}
 use mathlib.Core.List.{List, [], ◌∷◌}
 use mathlib.Core.Logic.{⊎_elim}
 use lib.Dec.{ltb, eqb}
 use lib.ListN.{get_or}
 use borrow.Author.Tests.{ltb-true, eqb-true}
+use Rattle.std.specs.Int.{from_bool}
 use Rattle.basics.proofs.Tests.{both, either}
-use Rattle.sed1520.specs.ChipBytes.{flag_places, flags_at, flags_right}
+use Rattle.sed1520.specs.ChipBytes.{bit, flag_places, flags_at, flags_right}
+
+-- a flag converted to a byte by the library
+pub from-flag : (flag : Bool) → from_bool flag ≡ bit flag
+from-flag true = refl
+from-flag false = refl
 
 -- whether a place is among those listed
 abbrev pub listed : List ℕ → ℕ → Bool

@@ -4,7 +4,8 @@ use native.Mathlib.Omega.{arith}
 use mathlib.Core.Path.{◌≡◌, refl, ap, ◌∙◌}
 use mathlib.Core.Bool.{false, true≢false}
 use mathlib.Core.Logic.{⊎_elim}
-use mathlib.Core.Option.{Option, none, some, none-ne-some, some-injective}
+use Rattle.std.specs.Prelude.{Option, None, Some}
+use Rattle.std.proofs.lemmas.Option.{none-some, same_Some}
 use lib.Dec.{ltb, eqb}
 use borrow.Author.Tests.{lt-ltb, le-ltb, ltb-true}
 use Rattle.sed1520.specs.Command.{first, count, opcodes, among, Coded, coded, not_coded, as_command, decode_of, is_command, encode_of}
@@ -31,9 +32,9 @@ unfolding encode_of
 there m b e =
     let v = ap (λ (t : Coded ℕ). t.value) e in
     ⊎_elim
-    (λ yes. let s = some-injective (first m.opcode + m.argument) b (rw yes at v) in
+    (λ yes. let s = same_Some (first m.opcode + m.argument) b (rw yes at v) in
     rw (← s) (decoded-argument m.opcode m.argument (ltb-true m.argument (count m.opcode) yes)))
-    (λ no. absurd (none-ne-some b (rw no at v)))
+    (λ no. absurd (none-some b (rw no at v)))
     (tested (ltb m.argument (count m.opcode)))
 
 -- a command's argument is in range, and says where its byte lies in the range of its opcode
@@ -41,14 +42,14 @@ abbrev pub Placed : Command → ℕ → Type 0
 Placed m b = (m.argument < count m.opcode) × (first m.opcode + m.argument ≡ b)
 
 -- so it is with the command that a byte is decoded as
-decoded-place : (o : Option Opcode) (b : ℕ) (m : Command) → among opcodes b ≡ o → (as_command b o).value ≡ some m → Placed m b
-decoded-place none b m e v = absurd (none-ne-some m v)
-decoded-place (some k) b m e v =
+decoded-place : (o : Option Opcode) (b : ℕ) (m : Command) → among opcodes b ≡ o → (as_command b o).value ≡ Some m → Placed m b
+decoded-place None b m e v = absurd (none-some m v)
+decoded-place (Some k) b m e v =
     let p = range-of-opcode opcodes k b e in
-    let s = some-injective (record { opcode = k; argument = b - first k }) m v in
+    let s = same_Some (record { opcode = k; argument = b - first k }) m v in
     rw (← s) (omega arith, omega arith)
 
-pub coded-place : (b : ℕ) (m : Command) → (decode_of b).value ≡ some m → Placed m b
+pub coded-place : (b : ℕ) (m : Command) → (decode_of b).value ≡ Some m → Placed m b
 unfolding decode_of
 coded-place b m v = decoded-place (among opcodes b) b m refl v
 
@@ -60,8 +61,8 @@ unfolding sum_below decode_of among
 exactly-175 = refl
 
 no-opcode : (b : ℕ) (o : Option Opcode) → eqb (as_command b o).number 0 ≡ false → as_command b o ≡ not_coded b
-no-opcode b none e = refl
-no-opcode b (some k) e = absurd (true≢false e)
+no-opcode b None e = refl
+no-opcode b (Some k) e = absurd (true≢false e)
 
 no-command : (b : ℕ) → is_command b ≡ false → decode_of b ≡ not_coded b
 unfolding decode_of

@@ -2,18 +2,18 @@
 -- registers that the bytes say, and stores the bytes of the registers that it sets and no others. On bytes that number 2 lets pass this is the
 -- chip's cycle (EveryBytesStep).
 use Rattle.std.specs.Prelude.{ℕ, suc, ◌+◌, ◌-◌, ◌*◌, ◌/◌, Bool, not, ◌&&◌, ◌||◌, List, [], ◌∷◌, ltb, eqb, length, get_or, take, set}
-use Rattle.std.proofs.Math.Option.{Option, none, some}
+use Rattle.std.specs.Prelude.{Option, None, Some}
 use Rattle.basics.specs.Choice.{if}
 use Rattle.basics.specs.Lists.{leading}
 use Rattle.basics.specs.Run.{Step, Run, run_of}
-use Rattle.basics.specs.Verdict.{Result, result_of}
+use Rattle.basics.specs.Verdict.{CallResult, result_of}
 use Rattle.sed1520.specs.ChipBytes.{chip_length, chip_bytes, registers_in}
 use Rattle.sed1520.specs.Command.{decode_of}
 use Rattle.sed1520.specs.Cycle.{address_line, write_line, execute, command_write, step_of, Reply, as_step}
 use Rattle.sed1520.specs.Memory.{ram_length}
 use Rattle.sed1520.specs.Records.{front, whole_records}
 use Rattle.sed1520.specs.Replies.{InPlace, in_place, nothing_run, tallied, answers_left}
-use Rattle.sed1520.specs.declared.actions.Answer.{Answer}
+use Rattle.sed1520.specs.Cycle.{Answer}
 use Rattle.sed1520.specs.declared.bus.Record.{Record}
 use Rattle.sed1520.specs.declared.commands.Command.{Command}
 use Rattle.sed1520.specs.declared.commands.Opcode.{Opcode}
@@ -36,8 +36,8 @@ set_by Reset modify = 5 ∷ 6 ∷ 7 ∷ 9 ∷ []
 
 -- the places of the registers that a byte written as a command sets: none where it is no command
 abbrev pub set_by_command : Option Command → Bool → List ℕ
-set_by_command none modify = []
-set_by_command (some m) modify = set_by m.opcode modify
+set_by_command None modify = []
+set_by_command (Some m) modify = set_by m.opcode modify
 
 -- the places that an accepted record stores: a command those of `set_by`, a data write the column and the read latch's mark, a data read these and
 -- the latch's byte, also where their values stay, and a status read none
@@ -99,7 +99,7 @@ ran_over run rs answers =
     in_place (tallied run.number run.answers rs) run.state.bytes run.state.ram (answers_left run.answers answers)
 
 -- the tally of one accepted record and the answer buffer after it
-abbrev pub answered_alone : Record → Reply → List ℕ → Result Tally (List ℕ)
+abbrev pub answered_alone : Record → Reply → List ℕ → CallResult Tally (List ℕ)
 answered_alone r a answers = result_of (tallied 0 (a ∷ []) (r ∷ [])) (answers_left (a ∷ []) answers)
 
 -- the first n of some records given to a step over bytes of chips and their RAM

@@ -1,16 +1,12 @@
 -- One rule for both ways between commands and bytes: each opcode has a first byte and a count of arguments.
 use Rattle.std.specs.Prelude.{ℕ, ◌+◌, ◌-◌, Bool, ◌&&◌, List, [], ◌∷◌, ltb, leb, eqb}
-use Rattle.std.proofs.Math.Option.{Option, none, some}
+use Rattle.std.specs.Prelude.{Option, None, Some, Result, Ok, Err}
 use Rattle.basics.specs.Choice.{if}
 use Rattle.sed1520.specs.declared.commands.Opcode.{Opcode}
 use Rattle.sed1520.specs.declared.commands.Opcode.TheVariants.{Display, StartLine, Page, Column, Adc, Static, Duty, Modify, End, Reset}
 use Rattle.sed1520.specs.declared.commands.Command.{Command}
-use Rattle.sed1520.specs.declared.commands.Decoded.{Decoded}
-use Rattle.sed1520.specs.declared.commands.Decoded.TheVariants.{Known, Unknown}
-use Rattle.sed1520.specs.declared.commands.Encoded.{Encoded}
-use Rattle.sed1520.specs.declared.commands.Encoded.TheVariants.{Byte, OutOfRange}
-use Rattle.sed1520.specs.declared.commands.Found.{Found}
-use Rattle.sed1520.specs.declared.commands.Found.TheVariants.{Of, Nothing}
+use Rattle.sed1520.specs.declared.commands.UnknownByte.{UnknownByte}
+use Rattle.sed1520.specs.declared.commands.UnknownArgument.{UnknownArgument}
 
 -- table 4.1: the byte of an opcode with argument 0
 abbrev pub first : Opcode → ℕ
@@ -48,8 +44,8 @@ within k b = leb (first k) b && ltb b (first k + count k)
 
 -- the first opcode of a list whose range has a byte, or none
 unfoldable pub among : List Opcode → ℕ → Option Opcode
-among [] b = none
-among (k ∷ ks) b = if (within k b) (some k) (among ks b)
+among [] b = None
+among (k ∷ ks) b = if (within k b) (Some k) (among ks b)
 
 -- an answer to a command or a byte asked alone: the number, its place, and the value, which a refusal does not hold
 pub record Coded (A : Type 0) : Type 0 where
@@ -59,16 +55,16 @@ pub record Coded (A : Type 0) : Type 0 where
 
 -- the answer with a value: number 0, place 0
 abbrev pub coded : {A : Type 0} → A → Coded A
-coded a = record { number = 0; place = 0; value = some a }
+coded a = record { number = 0; place = 0; value = Some a }
 
 -- number 7: one of the 81 bytes that are no command, or an argument out of range, with that byte or argument as place
 abbrev pub not_coded : {A : Type 0} → ℕ → Coded A
-not_coded at = record { number = 7; place = at; value = none }
+not_coded at = record { number = 7; place = at; value = None }
 
 -- a byte as the command of the opcode whose range has it; number 7 where there is no such opcode
 abbrev pub as_command : ℕ → Option Opcode → Coded Command
-as_command b none = not_coded b
-as_command b (some k) = coded (record { opcode = k; argument = b - first k })
+as_command b None = not_coded b
+as_command b (Some k) = coded (record { opcode = k; argument = b - first k })
 
 -- a byte decoded as a command
 unfoldable pub decode_of : ℕ → Coded Command
@@ -82,17 +78,12 @@ is_command b = eqb (decode_of b).number 0
 unfoldable pub encode_of : Command → Coded ℕ
 encode_of m = if (ltb m.argument (count m.opcode)) (coded (first m.opcode + m.argument)) (not_coded m.argument)
 
--- the opcode that the code found, or none
-abbrev pub found_opcode : Found → Option Opcode
-found_opcode (Of k) = some k
-found_opcode Nothing = none
+-- the number, place and value that a byte decoded stands for
+abbrev pub coded_command : Result Command UnknownByte → Coded Command
+coded_command (Ok m) = coded m
+coded_command (Err e) = not_coded e.0
 
--- the number, place and value that each case of `Decoded` stands for
-abbrev pub coded_command : Decoded → Coded Command
-coded_command (Known m) = coded m
-coded_command (Unknown b) = not_coded b
-
--- the number, place and value that each case of `Encoded` stands for
-abbrev pub coded_byte : Encoded → Coded ℕ
-coded_byte (Byte b) = coded b
-coded_byte (OutOfRange a) = not_coded a
+-- the number, place and value that a command encoded stands for
+abbrev pub coded_byte : Result ℕ UnknownArgument → Coded ℕ
+coded_byte (Ok b) = coded b
+coded_byte (Err e) = not_coded e.0

@@ -5,23 +5,28 @@
 -- `step_of` refuses a bus record by 4 to 6 or does its action; `cycle_of` tests the RAM's size and the chip (numbers 1 and 2) before the step;
 -- `outcome_of`, in crate `panel`, gives a record to the chip that it names, over that chip's 320 bytes.
 use Rattle.std.specs.Prelude.{ℕ, ◌+◌, ◌/◌, ◌%◌, Bool, true, false, not, ◌||◌, List, [], ◌∷◌, ltb, leb, eqb, length}
-use Rattle.std.proofs.Math.Option.{Option, none, some}
+use Rattle.std.specs.Prelude.{Option, None, Some, Result, Ok, Err}
 use Rattle.basics.specs.Choice.{if}
 use Rattle.sed1520.specs.Chip.{column_stop, out_of_range, latched, read_kind, staled}
 use Rattle.sed1520.specs.Chip.{with_display, with_static, with_duty, with_reverse, with_page, with_start_line, with_column, with_latch, with_modify}
 use Rattle.sed1520.specs.Command.{first, decode_of, within}
+use Rattle.basics.specs.Refusals.{number_of}
 use Rattle.basics.specs.Run.{Step}
+use Rattle.basics.specs.declared.refusal.Refusal.{Refusal}
 use Rattle.basics.specs.Table.{Cause, cause, unless_refused}
 use Rattle.sed1520.specs.Memory.{ram_length, image_index, byte_at, byte_set}
 use Rattle.sed1520.specs.declared.registers.Chip.{Chip}
-use Rattle.sed1520.specs.declared.registers.ReadLatch.TheVariants.{Fresh}
+use Rattle.sed1520.specs.declared.registers.ReadLatch.{ReadLatch}
+use Rattle.sed1520.specs.declared.registers.ReadLatch.TheVariants.{Fresh, Stale}
 use Rattle.sed1520.specs.declared.commands.Opcode.{Opcode}
 use Rattle.sed1520.specs.declared.commands.Opcode.TheVariants.{Display, StartLine, Page, Column, Adc, Static, Duty, Modify, End, Reset}
 use Rattle.sed1520.specs.declared.commands.Command.{Command}
-use Rattle.sed1520.specs.declared.actions.Answer.{Answer}
-use Rattle.sed1520.specs.declared.actions.Stored.{Stored}
-use Rattle.sed1520.specs.declared.actions.Stored.TheVariants.{At, Nothing}
+use Rattle.sed1520.specs.declared.actions.Accepted.{Accepted}
+use Rattle.sed1520.specs.declared.bus.Action.{Action}
+use Rattle.sed1520.specs.declared.bus.Action.TheVariants.{WriteCommand, WriteData, ReadStatus, ReadData}
 use Rattle.sed1520.specs.declared.bus.Record.{Record}
+use Rattle.sed1520.specs.declared.reading.Reading.{Reading}
+use Rattle.sed1520.specs.declared.reading.Reading.TheVariants.{Nothing, Fresh as ReadFresh, Stale as ReadStale, Status}
 
 -- A0, bit 0 of a record's control lines
 abbrev pub address_line : ℕ → ℕ
@@ -35,22 +40,62 @@ read_line lines = lines / 2 % 2
 abbrev pub write_line : ℕ → ℕ
 write_line lines = lines / 4 % 2
 
--- which of the 640 RAM bytes a cycle says that it stored to (request C-16): the byte's index in the image of both chips, or none
-abbrev pub stored_index : Stored → Option ℕ
-stored_index (At i) = some i
-stored_index Nothing = none
+-- the control lines that ask for an action
+abbrev pub lines_of : Action → ℕ
+lines_of WriteCommand = 2
+lines_of WriteData = 3
+lines_of ReadStatus = 4
+lines_of ReadData = 5
+
+-- what a cycle gives back: the number and its place; the answer's kind and byte; which of the 640 RAM bytes it says that it stored to (request
+-- C-16), by the byte's index in the image of both chips; and the chip's successor
+pub record Answer : Type 0 where
+  pub number : ℕ
+  pub place : ℕ
+  pub kind : ℕ
+  pub byte : ℕ
+  pub stored : Option ℕ
+  pub chip : Chip
+
+-- the kind of an answer: 0 of a write, 1 of a data read with a fresh latch, 2 of one with a stale latch, 3 of a status read
+abbrev pub kind_of : Reading → ℕ
+kind_of Nothing = 0
+kind_of (ReadFresh b) = 1
+kind_of (ReadStale b) = 2
+kind_of (Status b) = 3
+
+-- the byte of an answer: 0 of a write, else the byte read
+abbrev pub byte_of : Reading → ℕ
+byte_of Nothing = 0
+byte_of (ReadFresh b) = b
+byte_of (ReadStale b) = b
+byte_of (Status b) = b
+
+-- what a data read answers of the read latch
+abbrev pub read_of : ReadLatch → Reading
+read_of (Fresh b) = ReadFresh b
+read_of (Stale b) = ReadStale b
 
 -- the answer to a refused record: its number, place 0, kind 0, byte 0, nothing stored, the chip as it came
 abbrev pub refusal : ℕ → Chip → Answer
-refusal n c = record { number = n; place = 0; kind = 0; byte = 0; stored = Nothing; chip = c }
+refusal n c = record { number = n; place = 0; kind = 0; byte = 0; stored = None; chip = c }
 
 -- the answer to an accepted record that stores nothing: number 0, place 0, a kind and a byte, and the chip's successor
 abbrev pub answered : ℕ → ℕ → Chip → Answer
-answered k b c = record { number = 0; place = 0; kind = k; byte = b; stored = Nothing; chip = c }
+answered k b c = record { number = 0; place = 0; kind = k; byte = b; stored = None; chip = c }
 
 -- the answer to a data write that stores to a byte of the image: number 0, place 0, kind 0, byte 0, that byte's index and the chip's successor
 abbrev pub wrote_to : ℕ → Chip → Answer
-wrote_to i c = record { number = 0; place = 0; kind = 0; byte = 0; stored = At i; chip = c }
+wrote_to i c = record { number = 0; place = 0; kind = 0; byte = 0; stored = Some i; chip = c }
+
+-- the answer that stands for what is given back of an accepted record
+abbrev pub accepted : Accepted → Answer
+accepted a = record { number = 0; place = 0; kind = kind_of a.reading; byte = byte_of a.reading; stored = a.stored; chip = a.chip }
+
+-- the answer that stands for what a cycle of a chip gives back: of a refused record its number, and the chip as it came
+abbrev pub answer_of : Chip → Result Accepted Refusal → Answer
+answer_of c (Ok a) = accepted a
+answer_of c (Err r) = refusal (number_of r) c
 
 -- what a cycle gives back, and the RAM afterwards
 pub record Outcome : Type 0 where
@@ -85,8 +130,8 @@ column_refusal b modify = if (within Column b) (if modify 8 (if (leb (first Colu
 
 -- the answer to a byte and the command that it is decoded as: number 7 where it is none, then 8 and 14, then the command executed
 abbrev pub executed : ℕ → Option Command → Chip → Answer
-executed b none c = refusal 7 c
-executed b (some m) c =
+executed b None c = refusal 7 c
+executed b (Some m) c =
     let number = column_refusal b c.modify in
     if (eqb number 0) (answered 0 0 (execute m.opcode m.argument c)) (refusal number c)
 
@@ -162,7 +207,7 @@ pub record Reply : Type 0 where
 
 -- the reply that an answer has
 abbrev pub reply_of : Answer → Reply
-reply_of a = record { kind = a.kind; byte = a.byte; stored = stored_index a.stored }
+reply_of a = record { kind = a.kind; byte = a.byte; stored = a.stored }
 
 -- a chip and its RAM
 pub record ChipAndRam : Type 0 where

@@ -1,9 +1,9 @@
 -- What a run of records gives back and leaves: its replies as they stand in the answer buffer, and the counts over them.
 use Rattle.std.specs.Prelude.{ℕ, ◌+◌, ◌*◌, Bool, false, not, ◌&&◌, ◌||◌, eqb, length, drop}
 use mathlib.Core.List.{List, [], ◌∷◌, ◌++◌, flat_map}
-use Rattle.std.proofs.Math.Option.{Option, none, some}
+use Rattle.std.specs.Prelude.{Option, None, Some}
 use Rattle.basics.specs.Choice.{if}
-use Rattle.basics.specs.Verdict.{Result, result_of}
+use Rattle.basics.specs.Verdict.{CallResult, result_of}
 use Rattle.sed1520.specs.Cycle.{Reply}
 use Rattle.sed1520.specs.declared.bus.Record.{Record}
 use Rattle.sed1520.specs.declared.tally.Ran.{Ran}
@@ -26,8 +26,8 @@ differing_in (a ∷ more) (r ∷ rs) = if (is_compared a.kind && not (eqb a.byte
 
 -- whether what is said to be stored to is this byte of the image
 abbrev pub is_byte : ℕ → Option ℕ → Bool
-is_byte i none = false
-is_byte i (some j) = eqb i j
+is_byte i None = false
+is_byte i (Some j) = eqb i j
 
 -- how many of some replies say that their record stored to a byte of the image (request C-16)
 unfoldable pub stores_to : ℕ → List Reply → ℕ
@@ -36,11 +36,11 @@ stores_to i (a ∷ more) = if (is_byte i a.stored) 1 0 + stores_to i more
 
 -- the reply to a record that stores nothing, from its kind and its byte
 abbrev pub reply : ℕ → ℕ → Reply
-reply kind byte = record { kind = kind; byte = byte; stored = none }
+reply kind byte = record { kind = kind; byte = byte; stored = None }
 
 -- the reply to a data write that stores to a byte, from that byte's index
 abbrev pub write_reply : ℕ → Reply
-write_reply i = record { kind = 0; byte = 0; stored = some i }
+write_reply i = record { kind = 0; byte = 0; stored = Some i }
 
 -- a reply as it stands in the answer buffer: kind, byte
 abbrev pub reply_bytes : Reply → List ℕ
@@ -82,7 +82,7 @@ lent s ram answers = record { state = s; ram = ram; answers = answers }
 
 -- what a call over the bytes of a chip, of both or of a feed gives back, and what it leaves in them, in the RAM and in the answer buffer
 abbrev pub InPlace : Type 0 → Type 0
-InPlace A = Result A (Lent (List ℕ))
+InPlace A = CallResult A (Lent (List ℕ))
 
 -- an answer with what such a call leaves
 abbrev pub in_place : {A : Type 0} → A → List ℕ → List ℕ → List ℕ → InPlace A

@@ -1,9 +1,9 @@
 -- What is proved of the RAM byte that a cycle says it stored to (request C-16).
 use Rattle.std.specs.Prelude.{ℕ, ◌*◌, ◌<◌, ◌≡◌, Bool, ◌&&◌, List, ltb, eqb, length, get_or}
-use Rattle.std.proofs.Math.Option.{none, some}
+use Rattle.std.specs.Prelude.{None, Some}
 use Rattle.basics.specs.Choice.{if}
 use Rattle.sed1520.specs.Chip.{column_stop}
-use Rattle.sed1520.specs.Cycle.{Outcome, cycle_of, stored_index}
+use Rattle.sed1520.specs.Cycle.{Outcome, cycle_of}
 use Rattle.sed1520.specs.Memory.{ram_length, ram_index, image_index}
 use Rattle.sed1520.specs.declared.registers.Chip.{Chip}
 use Rattle.sed1520.specs.declared.bus.Record.{Record}
@@ -30,10 +30,10 @@ pub record SaidByte (r : Record) (c : Chip) (ram after : List ℕ) (i : ℕ) : T
 -- said, the RAM is as it was; a byte said, that byte alone was stored
 pub record SaysStored (r : Record) (c : Chip) (ram : List ℕ) (o : Outcome) : Type 0 where
   pub accepted : o.answer.number ≡ 0
-      → stored_index o.answer.stored ≡ if (finds_column r c) (some (image_index r.chip c.page c.column)) none
-  pub refused : (o.answer.number ≡ 0 → ⊥) → stored_index o.answer.stored ≡ none
-  pub nothing : stored_index o.answer.stored ≡ none → o.ram ≡ ram
-  pub byte : (i : ℕ) → stored_index o.answer.stored ≡ some i → SaidByte r c ram o.ram i
+      → o.answer.stored ≡ if (finds_column r c) (Some (image_index r.chip c.page c.column)) None
+  pub refused : (o.answer.number ≡ 0 → ⊥) → o.answer.stored ≡ None
+  pub nothing : o.answer.stored ≡ None → o.ram ≡ ram
+  pub byte : (i : ℕ) → o.answer.stored ≡ Some i → SaidByte r c ram o.ram i
 
 -- every cycle says what it stored to as `SaysStored` has it
 abbrev pub EveryCycleSays : Type 0

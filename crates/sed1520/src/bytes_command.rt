@@ -1,13 +1,14 @@
 // A command written to the 12 bytes of a chip.
 ghost use Rattle.std.specs.Prelude.{◌≡◌, length};
+ghost use Rattle.basics.specs.Refusals.{numbered};
 ghost use Rattle.sed1520.specs.BytesRun.{executed_bytes, command_bytes};
 ghost use Rattle.sed1520.specs.ChipBytes.{chip_length, registers_in};
 ghost use Rattle.sed1520.specs.Cycle.{command_write};
 ghost use Rattle.sed1520.specs.declared.commands.Opcode.TheVariants.{Modify, End};
 
-use crate::actions::column_refusal;
-use crate::chip_bytes::bit;
-use crate::commands::{Command, Decoded, Opcode, decode};
+use crate::actions::check_column;
+use crate::commands::{Command, Opcode};
+use basics::refusal::Refusal;
 
 // Read-modify-write on, with the column saved; already on, nothing is stored.
 fn begin_modify(bytes: &mut [u8])
@@ -38,10 +39,9 @@ fn execute(bytes: &mut [u8], command: Command)
     requires { length bytes.old ≡ chip_length }
     ensures { bytes.new ≡ executed_bytes command.opcode command.argument bytes.old }
 {
-    let opcode = command.opcode;
     let argument = command.argument;
-    match opcode {
-        Opcode::Display => bytes[0] = bit(argument != 0),
+    match command.opcode {
+        Opcode::Display => bytes[0] = u8::from(argument != 0),
         Opcode::StartLine => bytes[6] = argument,
         Opcode::Page => {
             bytes[5] = argument;
@@ -51,9 +51,9 @@ fn execute(bytes: &mut [u8], command: Command)
             bytes[7] = argument;
             bytes[9] = 0;
         }
-        Opcode::Adc => bytes[3] = bit(argument != 0),
-        Opcode::Static => bytes[1] = bit(argument != 0),
-        Opcode::Duty => bytes[2] = bit(argument != 0),
+        Opcode::Adc => bytes[3] = u8::from(argument != 0),
+        Opcode::Static => bytes[1] = u8::from(argument != 0),
+        Opcode::Duty => bytes[2] = u8::from(argument != 0),
         Opcode::Modify => begin_modify(bytes),
         Opcode::End => end_modify(bytes),
         Opcode::Reset => {
@@ -65,18 +65,14 @@ fn execute(bytes: &mut [u8], command: Command)
     }
 }
 
-// A command write. It gives its number back, 0 where it is done; a refused one stores nothing.
-pub(crate) fn write_command(bytes: &mut [u8], byte: u8) -> u8
+// A command write; a refused one stores nothing.
+pub(crate) fn write_command(bytes: &mut [u8], byte: u8) -> Result<(), Refusal>
     requires { length bytes.old ≡ chip_length }
-    ensures number { result ≡ (command_write byte (registers_in bytes.old)).number }
+    ensures number { numbered result ≡ (command_write byte (registers_in bytes.old)).number }
     ensures bytes { bytes.new ≡ command_bytes byte bytes.old }
 {
-    let Decoded::Known(command) = decode(byte) else {
-        return 7;
-    };
-    let number = column_refusal(byte, bytes[4] == 1);
-    if number == 0 {
-        execute(bytes, command);
-    }
-    number
+    let command = Command::try_from(byte)?;
+    check_column(byte, bytes[4] == 1)?;
+    execute(bytes, command);
+    Ok(())
 }

@@ -5,17 +5,20 @@ ghost use Rattle.basics.specs.Choice.{if};
 ghost use Rattle.basics.specs.Verdict.{result_of};
 ghost use Rattle.sed1520.specs.Chip.{column_stop};
 ghost use Rattle.sed1520.specs.ChipBytes.{chip_length};
+ghost use Rattle.sed1520.specs.Cycle.{kind_of, byte_of};
 ghost use Rattle.sed1520.specs.Memory.{ram_length};
 ghost use Rattle.sed1520.specs.Records.{front};
 ghost use Rattle.sed1520.specs.Replies.{in_place, reply};
 ghost use Rattle.sed1520.specs.BytesRun.{carries, answered_alone, columns_written, run_leading, run_bytes};
 
-use crate::bus::{RECORD_BYTES, Record};
+use crate::bus::{Action, RECORD_BYTES, Record};
 use crate::bytes_command::write_command;
-use crate::chip_bytes::{CHIP_BYTES, bit, registers_in};
+use crate::chip_bytes::{CHIP_BYTES, registers_in};
 use crate::memory::{load, store};
+use crate::reading::Reading;
 use crate::registers::Chip;
 use crate::tally::{ANSWER_BYTES, Ran, Tally, compares, differs};
+use basics::refusal::Refusal;
 use basics::word_of;
 
 // Whether a trace has an n-th record and it has these lines, names this chip and has a fourth byte of 0. Its four bytes
@@ -23,7 +26,7 @@ use basics::word_of;
 fn carried(trace: &[u8], n: usize, lines: u8, chip: u8) -> bool
     ensures { result ≡ (ltb n (length trace.now / 4) && carries lines chip (front (drop (4 * n) trace.now))) }
 {
-    if trace.len() / RECORD_BYTES <= n {
+    if n >= trace.len() / RECORD_BYTES {
         return false;
     }
     let from = RECORD_BYTES * n;
@@ -49,11 +52,11 @@ fn write_run(chip: u8, bytes: &mut [u8], ram: &mut [u8], trace: &[u8], answers: 
     while carried(trace, n, 3, chip) {
         if column < Chip::COLUMN_STOP {
             store(ram, page, column, trace[RECORD_BYTES * n + 2]);
-            column = column + 1;
+            column += 1;
         }
         answers[ANSWER_BYTES * n] = 0;
         answers[ANSWER_BYTES * n + 1] = 0;
-        n = n + 1;
+        n += 1;
     }
     let moved = column - bytes[7];
     bytes[7] = column;
@@ -84,19 +87,19 @@ fn read_run(chip: u8, bytes: &mut [u8], ram: &[u8], trace: &[u8], answers: &mut 
     let mut differing: u64 = 0;
     let mut n = 0;
     'reads: while carried(trace, n, 5, chip) {
-        let fresh = bit(mark == 1);
+        let fresh = u8::from(mark == 1);
         answers[ANSWER_BYTES * n] = 2 - fresh;
         answers[ANSWER_BYTES * n + 1] = latch;
-        compared = compared + (fresh as u64);
-        differing = differing + differs(fresh as u64, latch, trace[RECORD_BYTES * n + 2]);
-        if Chip::COLUMN_STOP <= column {
+        compared += fresh as u64;
+        differing += differs(fresh as u64, latch, trace[RECORD_BYTES * n + 2]);
+        if column >= Chip::COLUMN_STOP {
             mark = 0;
         } else {
             mark = 1;
             latch = load(ram, page, column);
             column = counted_on(column, modify);
         }
-        n = n + 1;
+        n += 1;
     }
     bytes[7] = column;
     bytes[9] = mark;
@@ -118,18 +121,19 @@ fn counted_on(column: u8, modify: bool) -> u8
 }
 
 // One record's answer at the front of the answers, and its tally.
-fn put_answer(bus: Record, kind: u8, byte: u8, answers: &mut [u8]) -> Tally
+fn put_answer(bus: Record, reading: Reading, answers: &mut [u8]) -> Tally
     requires { 2 ≤ length answers.old }
-    ensures { result_of result answers.new ≡ answered_alone bus (reply kind byte) answers.old }
+    ensures { result_of result answers.new
+        ≡ answered_alone bus (reply (kind_of reading) (byte_of reading)) answers.old }
 {
-    answers[0] = kind;
-    answers[1] = byte;
-    let compared = compares(kind);
+    answers[0] = reading.kind();
+    answers[1] = reading.byte();
+    let compared = compares(reading);
     Tally {
         number: 0,
         place: 1,
         compared,
-        differing: differs(compared, byte, bus.byte),
+        differing: differs(compared, reading.byte(), bus.byte),
     }
 }
 
@@ -143,31 +147,22 @@ fn run_first(bytes: &mut [u8], ram: &mut [u8], trace: &[u8], answers: &mut [u8])
         ≡ run_bytes bytes.old ram.old trace.now answers.old }
     ensures moved { result.moved ≡ columns_written trace.now 0 bytes.old bytes.new }
 {
-    let bus = Record {
-        lines: trace[0],
-        chip: trace[1],
-        byte: trace[2],
-        spare: trace[3],
+    let bus = Record::from([trace[0], trace[1], trace[2], trace[3]]);
+    let action = match bus.action() {
+        Ok(action) => action,
+        Err(refusal) => return Ran::refused(refusal),
     };
-    let number = bus.refusal();
-    if number != 0 {
-        return Ran::unmoved(Tally::nothing_run(number, 0));
-    }
-    let lines = bus.lines;
-    match lines {
-        3 => write_run(bus.chip, bytes, ram, trace, answers),
-        5 => Ran::unmoved(read_run(bus.chip, bytes, ram, trace, answers)),
-        4 => {
-            let status = registers_in(bytes).status_byte();
-            Ran::unmoved(put_answer(bus, 3, status, answers))
+    match action {
+        Action::WriteData => write_run(bus.chip, bytes, ram, trace, answers),
+        Action::ReadData => Ran::unmoved(read_run(bus.chip, bytes, ram, trace, answers)),
+        Action::ReadStatus => {
+            let status = Reading::Status(registers_in(bytes).status_byte());
+            Ran::unmoved(put_answer(bus, status, answers))
         }
-        _ => {
-            let refused = write_command(bytes, bus.byte);
-            if refused != 0 {
-                return Ran::unmoved(Tally::nothing_run(refused, 0));
-            }
-            Ran::unmoved(put_answer(bus, 0, 0, answers))
-        }
+        Action::WriteCommand => match write_command(bytes, bus.byte) {
+            Ok(()) => Ran::unmoved(put_answer(bus, Reading::Nothing, answers)),
+            Err(refusal) => Ran::refused(refusal),
+        },
     }
 }
 
@@ -185,14 +180,11 @@ pub fn run_of_tested_bytes(
         ≡ run_bytes bytes.old ram.old trace.now answers.old }
     ensures moved { result.moved ≡ columns_written trace.now 0 bytes.old bytes.new }
 {
-    if bytes.len() != CHIP_BYTES {
-        return Ran::unmoved(Tally::nothing_run(1, 0));
-    }
-    if ram.len() != Chip::RAM_WIDTH {
-        return Ran::unmoved(Tally::nothing_run(1, 0));
-    }
-    if answers.len() / ANSWER_BYTES < trace.len() / RECORD_BYTES {
-        return Ran::unmoved(Tally::nothing_run(1, 0));
+    if bytes.len() != CHIP_BYTES
+        || ram.len() != Chip::RAM_WIDTH
+        || answers.len() / ANSWER_BYTES < trace.len() / RECORD_BYTES
+    {
+        return Ran::refused(Refusal::WrongSize);
     }
     if trace.len() < RECORD_BYTES {
         return Ran::unmoved(Tally::nothing_run(0, 0));

@@ -1,6 +1,6 @@
 // A chip as 12 bytes, both ways.
 ghost use Rattle.std.specs.Prelude.{◌≡◌, length};
-ghost use Rattle.sed1520.specs.ChipBytes.{chip_length, bit, mark, as_latch, registers_in, flags_right, bytes_pass, no_chip, chip_in, chip_out};
+ghost use Rattle.sed1520.specs.ChipBytes.{chip_length, mark, as_latch, registers_in, flags_right, bytes_pass, no_chip, chip_in, chip_out};
 
 use crate::registers::{Chip, ReadLatch};
 
@@ -12,21 +12,11 @@ pub const PAGE_BYTE: usize = 5;
 
 pub const COLUMN_BYTE: usize = 7;
 
-// A flag as a byte.
-pub(crate) fn bit(flag: bool) -> u8
-    ensures { result ≡ bit flag }
-{
-    if flag { 1 } else { 0 }
-}
-
 // 1 for a fresh latch.
 fn mark(latch: ReadLatch) -> u8
     ensures { result ≡ mark latch }
 {
-    match latch {
-        ReadLatch::Fresh(_) => 1,
-        ReadLatch::Stale(_) => 0,
-    }
+    u8::from(matches!(latch, ReadLatch::Fresh(_)))
 }
 
 // The latch of a mark and a byte.
@@ -45,7 +35,6 @@ pub(crate) fn registers_in(bytes: &[u8]) -> Chip
     requires { length bytes.now ≡ chip_length }
     ensures { result ≡ registers_in bytes.now }
 {
-    let latch = latch_of(bytes[9], bytes[10]);
     Chip {
         display_on: bytes[0] == 1,
         static_on: bytes[1] == 1,
@@ -56,7 +45,7 @@ pub(crate) fn registers_in(bytes: &[u8]) -> Chip
         start_line: bytes[6],
         column: bytes[7],
         saved_column: bytes[8],
-        latch,
+        latch: latch_of(bytes[9], bytes[10]),
     }
 }
 
@@ -78,19 +67,17 @@ fn flags_right(bytes: &[u8]) -> bool
 pub fn bytes_pass(bytes: &[u8]) -> bool
     ensures { result ≡ bytes_pass bytes.now }
 {
-    if bytes.len() != CHIP_BYTES {
-        return false;
-    }
-    flags_right(bytes) & registers_in(bytes).in_range()
+    bytes.len() == CHIP_BYTES && flags_right(bytes) && registers_in(bytes).in_range()
 }
 
 // A chip that number 2 does not let pass.
 pub fn no_chip() -> Chip
     ensures { result ≡ no_chip }
 {
-    let mut chip = Chip::fresh();
-    chip.page = 4;
-    chip
+    Chip {
+        page: 4,
+        ..Chip::fresh()
+    }
 }
 
 // The chip of 12 bytes; where there are not 12, or a flag, the mark or the last byte is wrong, one that number 2 does not
@@ -98,13 +85,11 @@ pub fn no_chip() -> Chip
 pub fn chip_in(bytes: &[u8]) -> Chip
     ensures { result ≡ chip_in bytes.now }
 {
-    if bytes.len() != CHIP_BYTES {
-        return no_chip();
+    if bytes.len() == CHIP_BYTES && flags_right(bytes) {
+        registers_in(bytes)
+    } else {
+        no_chip()
     }
-    if !flags_right(bytes) {
-        return no_chip();
-    }
-    registers_in(bytes)
 }
 
 // The chip written as 12 bytes, where there are 12 to write to.
@@ -114,17 +99,18 @@ pub fn chip_out(chip: Chip, bytes: &mut [u8])
     if bytes.len() != CHIP_BYTES {
         return;
     }
-    let latch = chip.latch;
-    bytes[0] = bit(chip.display_on);
-    bytes[1] = bit(chip.static_on);
-    bytes[2] = bit(chip.duty_32);
-    bytes[3] = bit(chip.reverse);
-    bytes[4] = bit(chip.modify);
-    bytes[5] = chip.page;
-    bytes[6] = chip.start_line;
-    bytes[7] = chip.column;
-    bytes[8] = chip.saved_column;
-    bytes[9] = mark(latch);
-    bytes[10] = latch.byte();
-    bytes[11] = 0;
+    bytes.copy_from_slice(&[
+        u8::from(chip.display_on),
+        u8::from(chip.static_on),
+        u8::from(chip.duty_32),
+        u8::from(chip.reverse),
+        u8::from(chip.modify),
+        chip.page,
+        chip.start_line,
+        chip.column,
+        chip.saved_column,
+        mark(chip.latch),
+        chip.latch.byte(),
+        0,
+    ]);
 }

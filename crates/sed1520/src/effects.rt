@@ -47,8 +47,7 @@ impl Chip {
         ensures { result ≡ execute command.opcode command.argument self }
     {
         let argument = command.argument;
-        let opcode = command.opcode;
-        match opcode {
+        match command.opcode {
             Opcode::Display => self.display_on = argument != 0,
             Opcode::StartLine => self.start_line = argument,
             Opcode::Page => {

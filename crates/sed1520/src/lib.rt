@@ -11,5 +11,6 @@ pub mod chip_bytes;
 pub mod commands;
 mod effects;
 pub mod memory;
+pub mod reading;
 pub mod registers;
 pub mod tally;

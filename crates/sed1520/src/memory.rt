@@ -22,8 +22,7 @@ pub fn image_index(chip: u8, page: u8, column: u8) -> usize
 pub(crate) fn load(ram: &[u8], page: u8, column: u8) -> u8
     ensures { result ≡ byte_at ram.now page column }
 {
-    let at = index(page, column);
-    if at < ram.len() { ram[at] } else { 0 }
+    ram.get(index(page, column)).copied().unwrap_or(0)
 }
 
 // Writes the byte, or nothing where the RAM has none there.

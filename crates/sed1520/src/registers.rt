@@ -1,10 +1,13 @@
 // A chip's registers.
 ghost use Rattle.std.specs.Prelude.{◌≡◌};
-ghost use Rattle.sed1520.specs.Chip.{in_range, fresh, latched, stale, read_kind, with_latch, staled};
+ghost use Rattle.sed1520.specs.Chip.{in_range, fresh, latched, stale, with_latch, staled};
+ghost use Rattle.sed1520.specs.Cycle.{read_of};
+
+use crate::reading::Reading;
 
 // The byte that the next data read answers (document 01: the holder): fresh where a data read loaded it and nothing
 // made it stale since.
-#[derive(Clone, Copy)]
+#[derive(Clone, Copy, Debug, PartialEq, Eq)]
 pub enum ReadLatch {
     Stale(u8),
     Fresh(u8),
@@ -16,18 +19,17 @@ impl ReadLatch {
         ensures { result ≡ latched self }
     {
         match self {
-            ReadLatch::Fresh(b) => b,
-            ReadLatch::Stale(b) => b,
+            ReadLatch::Fresh(byte) | ReadLatch::Stale(byte) => byte,
         }
     }
 
-    // The kind of the answer that a data read gives.
-    pub(crate) fn kind(self) -> u8
-        ensures { result ≡ read_kind self }
+    // What a data read answers.
+    pub(crate) fn reading(self) -> Reading
+        ensures { result ≡ read_of self }
     {
         match self {
-            ReadLatch::Fresh(_) => 1,
-            ReadLatch::Stale(_) => 2,
+            ReadLatch::Fresh(byte) => Reading::Fresh(byte),
+            ReadLatch::Stale(byte) => Reading::Stale(byte),
         }
     }
 
@@ -40,7 +42,7 @@ impl ReadLatch {
 }
 
 // All of a chip but its display RAM, which is lent to each cycle.
-#[derive(Clone, Copy)]
+#[derive(Clone, Copy, Debug, PartialEq, Eq)]
 pub struct Chip {
     pub display_on: bool,
     pub static_on: bool,
@@ -90,39 +92,28 @@ impl Chip {
     }
 
     // Whether number 2 lets this value of a chip pass.
+    #[tactic(auto, using(std::proofs::lemmas::Bool::Decides::nat_tests), unfolding(crate::specs::Chip::in_range))]
     pub fn in_range(self) -> bool
         ensures { result ≡ in_range self }
     {
-        (self.page < 4)
-            & (self.start_line < 32)
-            & (self.column <= Chip::COLUMN_STOP)
-            & (self.saved_column <= Chip::COLUMN_STOP)
-            & (self.modify | (self.saved_column == 0))
+        self.page < 4
+            && self.start_line < 32
+            && self.column <= Chip::COLUMN_STOP
+            && self.saved_column <= Chip::COLUMN_STOP
+            && (self.modify || self.saved_column == 0)
     }
 
     // The read latch written, all else as it was.
     pub(crate) fn with_latch(self, latch: ReadLatch) -> Chip
         ensures { result ≡ with_latch latch self }
     {
-        Chip {
-            display_on: self.display_on,
-            static_on: self.static_on,
-            duty_32: self.duty_32,
-            reverse: self.reverse,
-            modify: self.modify,
-            page: self.page,
-            start_line: self.start_line,
-            column: self.column,
-            saved_column: self.saved_column,
-            latch,
-        }
+        Chip { latch, ..self }
     }
 
     // The read latch made stale, all else as it was.
     pub(crate) fn staled(self) -> Chip
         ensures { result ≡ staled self }
     {
-        let latch = self.latch;
-        self.with_latch(latch.made_stale())
+        self.with_latch(self.latch.made_stale())
     }
 }

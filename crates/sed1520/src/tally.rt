@@ -1,14 +1,20 @@
 // What a run of records gives back, and which answers are counted.
 ghost use Rattle.std.specs.Prelude.{◌≡◌, eqb};
 ghost use Rattle.basics.specs.Choice.{if};
+ghost use Rattle.basics.specs.Refusals.{number_of};
+ghost use Rattle.sed1520.specs.Cycle.{kind_of};
 ghost use Rattle.sed1520.specs.Replies.{is_compared, nothing_run, ran_unmoved};
+
+use crate::reading::Reading;
+use basics::refusal::Refusal;
+use basics::verdict::Refused;
 
 // The bytes of a record's answer.
 pub const ANSWER_BYTES: usize = 2;
 
 // What a run of records gives back beside what it was lent: the number and its place, how many reads were compared with
 // the trace and how many of these differ.
-#[derive(Clone, Copy)]
+#[derive(Clone, Copy, Debug, PartialEq, Eq)]
 pub struct Tally {
     pub number: u8,
     pub place: u64,
@@ -28,11 +34,18 @@ impl Tally {
             differing: 0,
         }
     }
+
+    // A call refused: no record run.
+    pub fn refused(refused: Refused) -> Tally
+        ensures { result ≡ nothing_run (number_of refused.refusal) refused.place }
+    {
+        Tally::nothing_run(refused.refusal.number(), refused.place)
+    }
 }
 
 // What records that run together give back: their tally, and by how many columns data writes moved the column on, which is
 // how many bytes these stored to.
-#[derive(Clone, Copy)]
+#[derive(Clone, Copy, Debug, PartialEq, Eq)]
 pub struct Ran {
     pub tally: Tally,
     pub moved: u8,
@@ -45,16 +58,22 @@ impl Ran {
     {
         Ran { tally, moved: 0 }
     }
+
+    // The first record refused: nothing ran.
+    pub fn refused(refusal: Refusal) -> Ran
+        ensures { result ≡ ran_unmoved (nothing_run (number_of refusal) 0) }
+    {
+        Ran::unmoved(Tally::refused(Refused::new(refusal, 0)))
+    }
 }
 
-// Whether an answer of this kind is compared with the trace, as a count.
-pub(crate) fn compares(kind: u8) -> u64
-    ensures { result ≡ if (is_compared kind) 1 0 }
+// Whether what was read is compared with the trace, as a count.
+pub(crate) fn compares(reading: Reading) -> u64
+    ensures { result ≡ if (is_compared (kind_of reading)) 1 0 }
 {
-    match kind {
-        1 => 1,
-        3 => 1,
-        _ => 0,
+    match reading {
+        Reading::Fresh(_) | Reading::Status(_) => 1,
+        Reading::Nothing | Reading::Stale(_) => 0,
     }
 }
 

@@ -64,8 +64,8 @@ feeds-close = closes-after
 -- the close after whole records only: it gives back what the last call gave back, and the chips stay
 record Closes (p : Panel) (trace : List ℕ) : Type 0 where
   tally : (close_of (feed_after (trace_run p trace) trace)).tally ≡ (fed_after (trace_run p trace) trace).tally
-  left : (close_of (feed_after (trace_run p trace) trace)).feed.left ≡ (trace_run p trace).state.left
-  right : (close_of (feed_after (trace_run p trace) trace)).feed.right ≡ (trace_run p trace).state.right
+  left : (close_of (feed_after (trace_run p trace) trace)).feed.chips.left ≡ (trace_run p trace).state.left
+  right : (close_of (feed_after (trace_run p trace) trace)).feed.chips.right ≡ (trace_run p trace).state.right
 
 module _ (p : Panel) (whole : Whole p) (trace : List ℕ) (size : length trace % 4 ≡ 0) where
   close-stopped : ((trace_run p trace).number ≡ 0 → ⊥) → Closes p trace

@@ -122,7 +122,8 @@ module _ (p : Panel) (image : length p.ram ≡ 640) (trace other : List ℕ) (re
   same-answers rest other_rest k =
       answered-by k trace replies rest many ∙ ap (map seen) (same.answers k) ∙ sym (answered-by k other other_replies other_rest many-others)
 
-  same-tally : tallied (trace_run p trace).number replies (whole_records trace) ≡ tallied (trace_run p other).number other_replies (whole_records other)
+  same-tally : tallied (trace_run p trace).number replies (whole_records trace)
+      ≡ tallied (trace_run p other).number other_replies (whole_records other)
   same-tally = rw (done, same.done, same_place, same-compared, same-differing)
 
   same_ended : (answers buffer : List ℕ) → SameEnd trace other (ended_bytes p trace answers) (ended_bytes p other buffer)

@@ -10,7 +10,7 @@ use borrow.Author.Tests.{le-ltb, ltb-false, not-false}
 use Rattle.basics.specs.Choice.{if}
 use Rattle.basics.specs.Table.{First, NoneHolds}
 use Rattle.basics.specs.Verdict.{verdict}
-use Rattle.basics.specs.declared.verdict.Verdict.{Verdict}
+use Rattle.basics.specs.Verdict.{Verdict}
 use Rattle.basics.proofs.Table.{first-refuses, none-refuses, each_line, of-first, refusing-line, passing-table}
 use Rattle.basics.proofs.Tests.{neither}
 use Rattle.sed1520.specs.Chip.{in_range, out_of_range}
@@ -28,12 +28,12 @@ use Rattle.trace.proofs.ReplayNumbers.{Sizes, sizes-right, right-sizes}
 
 -- what is asked of a feed by whether either chip is out of range and by its progress
 abbrev pub of_feed : {A : Type 0} → (Bool → Bool → Progress → A) → Feed → A
-of_feed asked f = asked (out_of_range f.left) (out_of_range f.right) f.progress
+of_feed asked f = asked (out_of_range f.chips.left) (out_of_range f.chips.right) f.progress
 
 -- number 2 has no cause
 pub record StateRight (f : Feed) : Type 0 where
-  pub left : in_range f.left ≡ true
-  pub right : in_range f.right ≡ true
+  pub left : in_range f.chips.left ≡ true
+  pub right : in_range f.chips.right ≡ true
   pub few : f.progress.kept ≤ 3
   pub compared : f.progress.compared ≤ f.progress.records
   pub differing : f.progress.differing ≤ f.progress.compared
@@ -51,8 +51,8 @@ state-right f none =
     let kept = neither (ltb 3 t.kept) _ none.1.1.0 in
     let counts = neither (ltb t.records t.compared) (ltb t.compared t.differing) kept.1 in
     record {
-      left = not-false (in_range f.left) none.0;
-      right = not-false (in_range f.right) none.1.0;
+      left = not-false (in_range f.chips.left) none.0;
+      right = not-false (in_range f.chips.right) none.1.0;
       few = ltb-false 3 t.kept kept.0;
       compared = ltb-false t.records t.compared counts.0;
       differing = ltb-false t.compared t.differing counts.1;
@@ -137,10 +137,11 @@ module _ (f : Feed) (ram part answers : ℕ) where
 
 -- the opening
 module _ (left right : Chip) where
-  abbrev opened : Feed
+  abbrev pub opened : Feed
   opened = as_feed left right (begun Open)
 
-  pub open-refused : (n at : ℕ) → First (of_feed feed_table opened) n at → open_of left right ≡ fed_with (as_feed left right (begun (Stopped n at))) n at
+  pub open-refused : (n at : ℕ) → First (of_feed feed_table opened) n at
+      → open_of left right ≡ fed_with (as_feed left right (begun (Stopped n at))) n at
   unfolding open_of
   open-refused = first-refuses (λ n at. fed_with (as_feed left right (begun (Stopped n at))) n at) (fed_with opened 0 0) (of_feed feed_table opened)
 
@@ -180,7 +181,7 @@ module _ (f : Feed) (ram part answers : List ℕ) where
   part-refused = first-refuses (not_taken f ram answers) _ (of_feed part_table f (length ram) (length part) (length answers))
 
   pub part-taken : NoneHolds (of_feed part_table f (length ram) (length part) (length answers))
-      → open_part f ram part answers ≡ took_part f bytes (ended_bytes (as_panel f.left f.right ram) bytes answers)
+      → open_part f ram part answers ≡ took_part f bytes (ended_bytes (as_panel f.chips.left f.chips.right ram) bytes answers)
   unfolding open_part
   part-taken = none-refuses (not_taken f ram answers) _ (of_feed part_table f (length ram) (length part) (length answers))
 

@@ -22,7 +22,7 @@ feed-numbers =
       part = λ f ram part answers e.
           let lines = of_feed part_table f (length ram) (length part) (length answers) in
           let bytes = joined_to f.progress part in
-          let run = took_part f bytes (ended_bytes (as_panel f.left f.right ram) bytes answers) in
+          let run = took_part f bytes (ended_bytes (as_panel f.chips.left f.chips.right ram) bytes answers) in
           rw (goes_on f ram part answers e)
           (rw (table-as (λ (o : PartOutcome). tally_verdict o.answer) lines (λ n at. refl) refl) (exactly-when lines (tally_verdict run.answer)));
       closed = λ f e.

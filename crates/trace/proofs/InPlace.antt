@@ -9,7 +9,7 @@ use lib.ListN.{length, take, drop}
 use borrow.Author.Tests.{eq-eqb, ne_eqb, not-false}
 use Rattle.basics.specs.Table.{Cause, unless_refused, verdict_by, First, NoneHolds}
 use Rattle.basics.specs.Verdict.{verdict}
-use Rattle.basics.specs.declared.verdict.Verdict.{Verdict}
+use Rattle.basics.specs.Verdict.{Verdict}
 use Rattle.basics.proofs.Table.{first-refuses, none-refuses, each_line, table-as, exactly-when, refusing-line, passing-table}
 use Rattle.basics.proofs.Tests.{both, when}
 use Rattle.sed1520.specs.Chip.{in_range}

@@ -3,8 +3,8 @@ use Prim.Native.Nat.{ℕ, ◌+◌, ◌-◌, ◌*◌, ◌/◌, ◌%◌, ◌<◌, 
 use native.Mathlib.Omega.{arith}
 use mathlib.Core.Path.{◌≡◌, refl, sym, ap, ◌∙◌}
 use mathlib.Core.List.{List, [], ◌∷◌, ◌++◌, flat_map, append_assoc, append-nil}
-use lib.ListN.{length, get_or, take, drop, take-append-drop, length-append, length-drop, get_or-append, get_or-eq_default}
-use lib.Seq.{length-take-le, get_or-take, get_or-drop, get_or-append-add, drop-append-add}
+use lib.ListN.{length, get_or, take, drop, take-append-drop, length-append, length-drop}
+use lib.Seq.{length-take-le, get_or-drop, drop-append-add}
 use Rattle.basics.specs.Lists.{pieces}
 use Rattle.basics.specs.Run.{run_of}
 use Rattle.panel.specs.Panel.{Panel}
@@ -25,18 +25,6 @@ module _ (t : Progress) (few : t.kept ≤ 3) where
 
   pub joined_length : (part : List ℕ) → length (joined_to t part) ≡ t.kept + length part
   joined_length part = rw length-append (omega (arith, kept-length))
-
-  pub kept_at : (part : List ℕ) (i n : ℕ) → i ≡ n → n < t.kept → get_or (t.first ∷ t.second ∷ t.third ∷ []) n 0 ≡ get_or (joined_to t part) i 0
-  kept_at part i n e l =
-      rw e (sym (get_or-append (kept_bytes t) part 0 n (omega (arith, kept-length)) ∙ get_or-take t.kept _ n 0 l))
-
-  pub part_at : (part : List ℕ) (i : ℕ) → t.kept ≤ i → get_or (joined_to t part) i 0 ≡ get_or part (i - t.kept) 0
-  part_at part i l =
-      let e : length (kept_bytes t) + (i - t.kept) ≡ i = omega (arith, kept-length) in
-      rw e at (get_or-append-add (kept_bytes t) part (i - t.kept) 0)
-
-  pub past-at : (part : List ℕ) (i : ℕ) → t.kept ≤ i → length part ≤ i - t.kept → get_or (joined_to t part) i 0 ≡ 0
-  past-at part i l h = part_at part i l ∙ get_or-eq_default part 0 h
 
   -- the record that the bytes kept over begin, and what is left of the part behind it
   pub straddled : (part : List ℕ) → 4 ≤ t.kept + length part → let bytes = joined_to t part in

@@ -27,16 +27,19 @@ use Rattle.trace.proofs.FeedCases.{of_feed, part_right, part-refused, part-taken
 use Rattle.trace.proofs.InPlace.{kept, panel-back}
 
 module _ (chips ram part answers : List ℕ) (t : Progress) where
-  pub still-stopped : (n at : ℕ) → t.ending ≡ Stopped n at → part_in_place chips t ram part answers ≡ in_place (fed_in_place t n at) chips ram answers
+  pub still-stopped : (n at : ℕ) → t.ending ≡ Stopped n at
+      → part_in_place chips t ram part answers ≡ in_place (fed_in_place t n at) chips ram answers
   unfolding part_in_place
   still-stopped n at e = rw e
 
-  pub chips-wrong : t.ending ≡ Open → (length chips ≡ 24 → ⊥) → part_in_place chips t ram part answers ≡ in_place (fed_in_place t 1 0) chips ram answers
+  pub chips-wrong : t.ending ≡ Open → (length chips ≡ 24 → ⊥)
+      → part_in_place chips t ram part answers ≡ in_place (fed_in_place t 1 0) chips ram answers
   unfolding part_in_place
   chips-wrong e h = rw (e, ne_eqb (length chips) 24 h)
 
   module _ (size : length chips ≡ 24) where
-    pub still_open : t.ending ≡ Open → part_in_place chips t ram part answers ≡ part_over_bytes chips (open_part (feed_in chips t) ram part answers)
+    pub still_open : t.ending ≡ Open
+        → part_in_place chips t ram part answers ≡ part_over_bytes chips (open_part (feed_in chips t) ram part answers)
     unfolding part_in_place
     still_open e = rw (e, eq-eqb (length chips) 24 size)
 
@@ -55,7 +58,7 @@ module _ (chips ram part answers : List ℕ) (t : Progress) where
 module _ (left right : Chip) (t : Progress) (ram part answers : List ℕ) where
   -- the panel after a part
   abbrev panel_left : PartOutcome → Panel
-  panel_left o = as_panel o.lent.state.left o.lent.state.right o.lent.ram
+  panel_left o = as_panel o.lent.state.chips.left o.lent.state.chips.right o.lent.ram
 
   abbrev Stays : PartOutcome → Type 0
   Stays o = panel_left o ≡ as_panel left right ram
@@ -66,7 +69,8 @@ module _ (left right : Chip) (t : Progress) (ram part answers : List ℕ) where
   out_of_range out =
       let f = as_feed left right t in
       by-ending Stays t.ending (λ n at e. refl)
-      (λ _. each_line (not_taken f ram answers) (took_part f (joined_to t part) (ended_bytes (as_panel left right ram) (joined_to t part) answers)) Stays
+      (λ _. each_line (not_taken f ram answers)
+      (took_part f (joined_to t part) (ended_bytes (as_panel left right ram) (joined_to t part) answers)) Stays
       (of_feed part_table f (length ram) (length part) (length answers)) (λ n at _. refl)
       (λ none. let state = (part_right f _ _ _ none).state in
       absurd (true≢false (rw (state.left, state.right) at out))))

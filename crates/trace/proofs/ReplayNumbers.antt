@@ -6,8 +6,8 @@ use mathlib.Core.List.{List}
 use lib.Dec.{ltb, eqb}
 use lib.ListN.{length}
 use borrow.Author.Tests.{le-ltb, ltb-false, eqb-true, eq-eqb, not-false}
-use Rattle.basics.specs.Table.{Cause, First, NoneHolds}
-use Rattle.basics.proofs.Table.{first-refuses, none-refuses, table-as, exactly-when}
+use Rattle.basics.specs.Table.{Cause, NoneHolds}
+use Rattle.basics.proofs.Table.{none-refuses, table-as, exactly-when}
 use Rattle.basics.proofs.Tests.{neither, no_other}
 use Rattle.sed1520.specs.Chip.{in_range, out_of_range}
 use Rattle.panel.specs.Panel.{Panel}
@@ -40,10 +40,6 @@ right-sizes bytes records ram answers short image space =
 module _ (p : Panel) (trace answers : List ℕ) where
   abbrev pub table : List Cause
   table = replay_table (out_of_range p.left) (out_of_range p.right) (length trace) (length p.ram) (length answers)
-
-  pub replay-refused : (n at : ℕ) → First table n at → replay_of p trace answers ≡ refused_at n at p answers
-  unfolding replay_of
-  replay-refused = first-refuses (λ n at. refused_at n at p answers) (ended_bytes p trace answers) table
 
   pub replay-passed : NoneHolds table → replay_of p trace answers ≡ ended_bytes p trace answers
   unfolding replay_of

@@ -93,7 +93,7 @@ module _ {chips₀ ram₀ trace buffer wear₀ chips ram answers wear : List ℕ
   taken : length (take n rs) ≡ n
   taken = length-take-le n rs (omega (arith, all, on.within))
 
-  pub so-few : Few n n compared differing
+  so-few : Few n n compared differing
   so-few = rw taken at (answered-few (panel_in chips₀ ram₀) (take n rs) buffer (ap (λ (i : InPlace Tally). i.answer) on.so_far))
 
   pub buffered : length answers ≡ length buffer
@@ -160,22 +160,18 @@ module _ {chips₀ ram₀ trace buffer wear₀ chips ram answers wear : List ℕ
         ∙ worn-more wear₀ (replies_of chips₀ ram₀ rs n) (replies_of chips ram left many)
         ∙ ap (worn wear₀) (sym (ap (λ (qs : List Record). (panel_run (panel_in chips₀ ram₀) qs).answers) (take-add n many rs) ∙ then))
 
-    pub still-buffered : length behind.lent.answers ≡ length buffer
-    still-buffered =
-        ap (λ (i : InPlace Tally). length i.lent.answers) joined
-        ∙ answers-length (panel_in chips₀ ram₀) (take (n + many) rs) buffer (simp length-take (omega (arith, all)))
-
     fits_on : BothPass chips' ram'
     fits_on = fits_after on.fits (take many left) [] (drop (2 * n) answers) _ ran
 
-    pub went-few : Few (length trace / 4 - n) went.place went.compared went.differing
-    went-few =
+    -- with those before, no more than the trace has
+    pub few-on : Few (length trace / 4) (n + went.place) (compared + went.compared) (differing + went.differing)
+    few-on =
         let few = answered-few (panel_in chips ram) (take many left) (drop (2 * n) answers) (ap (λ (i : InPlace Tally). i.answer) ran) in
         let most : length (take many left) ≤ length trace / 4 - n = simp length-take (omega (arith, some_left)) in
         record {
           place-few = omega (arith, few.place-few);
-          compared-few = omega (arith, few.compared-few);
-          differing-few = omega (arith, few.differing-few);
+          compared-few = omega (arith, few.compared-few, so-few.compared-few);
+          differing-few = omega (arith, few.differing-few, so-few.differing-few);
         }
 
     -- done, they are all answered

@@ -62,7 +62,7 @@ module _ (f : Feed) (ram part answers : List ℕ) (is_open : f.progress.ending �
   lines = of_feed part_table f (length ram) (length part) (length answers)
 
   abbrev outcome : ReplayOutcome
-  outcome = ended_bytes (as_panel f.left f.right ram) (joined_to f.progress part) answers
+  outcome = ended_bytes (as_panel f.chips.left f.chips.right ram) (joined_to f.progress part) answers
 
   taken_here : NoneHolds lines → part_of f ram part answers ≡ took_part f (joined_to f.progress part) outcome
   taken_here none = goes_on f ram part answers is_open ∙ part-taken f ram part answers none
@@ -86,10 +86,10 @@ module _ (f : Feed) (ram part answers : List ℕ) (is_open : f.progress.ending �
       ⊎_elim
       (λ first. rw (refused-here _ _ first.1.1))
       (λ none. let right = part_right f _ _ _ none in
-      let whole : Whole (as_panel f.left f.right ram) =
+      let whole : Whole (as_panel f.chips.left f.chips.right ram) =
       record { left = right.state.left; right = right.state.right; image = right.sizes.image } in
       let bytes = joined_to f.progress part in
-      let own = own-number (trace_run (as_panel f.left f.right ram) bytes).number (run-number _ whole bytes) in
+      let own = own-number (trace_run (as_panel f.chips.left f.chips.right ram) bytes).number (run-number _ whole bytes) in
       absurd (true≢false (sym (rw (taken_here none) at refused) ∙ own)))
       (first_or_none lines)
 

@@ -1,17 +1,15 @@
 -- Wear counted on: one store more from place to place, and the stores of answers.
-use Prim.Native.Nat.{ℕ, ◌+◌, ◌<◌, ◌≤◌}
+use Prim.Native.Nat.{ℕ, ◌+◌, ◌<◌}
 use native.Mathlib.Omega.{arith}
 use mathlib.Core.Path.{◌≡◌, refl, sym, ◌∙◌}
-use mathlib.Core.Bool.{and-false}
 use mathlib.Core.List.{List, [], ◌++◌}
 use mathlib.Core.Logic.{⊎_elim}
-use lib.Dec.{eqb, leb, ltb}
-use lib.ListN.{length, get_or, set, replicate, length-set, length-replicate, get_or-replicate, get_or-eq_default}
-use lib.Seq.{get_or-set_same, get_or-set_other}
-use borrow.Author.Tests.{eqb-true, eqb-false, eq-eqb, le-ltb, ltb-true, ltb-false}
+use lib.Dec.{ltb}
+use lib.ListN.{length, get_or, replicate, length-replicate, get_or-replicate, get_or-eq_default}
+use borrow.Author.Tests.{ltb-true, ltb-false}
 use Rattle.basics.specs.Choice.{if}
 use Rattle.basics.specs.Counts.{sum_below, total, lies_in}
-use Rattle.basics.proofs.Counts.{lies-in-none, lies-last, total-tabulated}
+use Rattle.basics.proofs.Counts.{lies-in-none, total-tabulated}
 use Rattle.basics.proofs.Lists.{tabulated-is, tabulated-same, tabulated-length, tabulated-at}
 use Rattle.basics.proofs.Tests.{tested}
 use Rattle.sed1520.specs.Cycle.{Reply}
@@ -19,44 +17,10 @@ use Rattle.sed1520.specs.Replies.{stores_to}
 use Rattle.sed1520.proofs.Counts.{stores-bound, stores-join}
 use Rattle.trace.specs.Wear.{stores_in, AtMost, raised, worn}
 
--- the places from one up to another are counted, each below the length
-pub record Raising (wear₀ : List ℕ) (from : ℕ) (wear : List ℕ) (at : ℕ) : Type 0 where
-  pub on : from ≤ at
-  pub size : length wear ≡ length wear₀
-  pub counts : (i : ℕ) → i < length wear₀ → get_or wear i 0 ≡ get_or wear₀ i 0 + if (lies_in from at i) 1 0
-
-pub raise-none : (wear : List ℕ) (from : ℕ) → Raising wear from wear from
-raise-none wear from = record { on = omega arith; size = refl; counts = λ i _. rw (lies-in-none from i) (omega arith) }
-
-module _ {wear₀ : List ℕ} {from : ℕ} {wear : List ℕ} {at : ℕ} (held : Raising wear₀ from wear at) where
-  -- the next place is as it was
-  pub raise-here : at < length wear₀ → get_or wear at 0 ≡ get_or wear₀ at 0
-  raise-here within = let here = held.counts at within in here ∙ rw (le-ltb at at (omega arith), and-false (leb from at)) (omega arith)
-
-  pub raise-more : at < length wear₀ → Raising wear₀ from (set wear at (get_or wear at 0 + 1)) (at + 1)
-  raise-more within =
-      record {
-        on = omega (arith, held.on);
-        size = length-set wear at _ ∙ held.size;
-        counts = λ i h.
-            let last = lies-last from at i held.on in
-            let here = held.counts i h in
-            ⊎_elim
-            (λ t. let e = eqb-true i at t in
-            rw (e, get_or-set_same wear at (get_or wear at 0 + 1) 0 (omega (arith, held.size)))
-            (let one = rw (e, eq-eqb at at refl) at last in let at-it = rw e at here in omega (arith, one, at-it)))
-            (λ t. rw (get_or-set_other wear at i (get_or wear at 0 + 1) 0 (eqb-false i at t))
-            (let none = rw t at last in omega (arith, none, here)))
-            (tested (eqb i at));
-      }
-
-  pub raise-all : (to : ℕ) → ((i : ℕ) → i < length wear₀ → lies_in from at i ≡ lies_in from to i) → wear ≡ raised wear₀ from to
-  unfolding raised
-  raise-all to same = tabulated-is _ 0 (length wear₀) wear held.size (λ i h. held.counts i h ∙ rw (same i h))
-
 -- no place, nothing counted
 pub raised-none : (wear : List ℕ) (at : ℕ) → raised wear at at ≡ wear
-raised-none wear at = sym (raise-all (raise-none wear at) at (λ i h. refl))
+unfolding raised
+raised-none wear at = sym (tabulated-is _ 0 (length wear) wear refl (λ i h. rw (lies-in-none at i) (omega arith)))
 
 -- no wear, nothing counted
 pub worn-no-wear : (wear : List ℕ) (answers : List Reply) → length wear ≡ 0 → wear ≡ worn wear answers

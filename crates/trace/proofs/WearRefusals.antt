@@ -28,7 +28,7 @@ wear-numbers =
           let bytes = joined_to f.progress part in
           rw (part-open f ram part answers wear e)
           (rw (table-as (λ (o : WithWear PartOutcome). tally_verdict o.outcome.answer) lines (λ n at. refl) refl)
-          (exactly-when lines (tally_verdict (took_part f bytes (ended_bytes (as_panel f.left f.right ram) bytes answers)).answer)));
+          (exactly-when lines (tally_verdict (took_part f bytes (ended_bytes (as_panel f.chips.left f.chips.right ram) bytes answers)).answer)));
     }
 
 pub wear-stays : WearStays

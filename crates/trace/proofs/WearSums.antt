@@ -19,7 +19,8 @@ use Rattle.sed1520.specs.Records.{whole_records}
 use Rattle.trace.specs.Feed.{joined_to, completed_by, not_taken}
 use Rattle.trace.specs.Promises.{Replayable}
 use Rattle.trace.specs.Replay.{refused_at}
-use Rattle.trace.specs.Wear.{stores_in, WithWear, with_wear, wear_of, replay_wear_table, replay_with_wear, part_replies, part_wear_table, part_with_wear}
+use Rattle.trace.specs.Wear.{stores_in, WithWear, with_wear, wear_of, replay_wear_table, replay_with_wear}
+use Rattle.trace.specs.Wear.{part_replies, part_wear_table, part_with_wear}
 use Rattle.trace.specs.WearPromises.{WearCounted}
 use Rattle.trace.specs.declared.progress.Ending.TheVariants.{Open}
 use Rattle.trace.specs.declared.feed.Feed.{Feed}
@@ -56,13 +57,13 @@ none-completed f ram part answers wear e none few =
     let right = part_right f (length ram) (length part) (length answers) none.1 in
     let size = joined_length f.progress right.state.few part in
     part-wear f ram part answers wear e none
-    ∙ ap (λ (rs : List Record). wear_of (panel_run (as_panel f.left f.right ram) rs).answers)
+    ∙ ap (λ (rs : List Record). wear_of (panel_run (as_panel f.chips.left f.chips.right ram) rs).answers)
     (no_record (joined_to f.progress part) (omega (arith, size, few)))
     ∙ no_stores 640
 
 -- what passed 1, 13 and 2 is a whole panel
 part-panel : (f : Feed) (ram part answers wear : List ℕ) → NoneHolds (part_wear_table f ram part answers wear)
-    → Whole (as_panel f.left f.right ram)
+    → Whole (as_panel f.chips.left f.chips.right ram)
 part-panel f ram part answers wear none =
     let right = part_right f (length ram) (length part) (length answers) none.1 in
     record { left = right.state.left; right = right.state.right; image = right.sizes.image }
@@ -81,6 +82,6 @@ wear-counted =
           rw (part-wear f ram part answers wear e none) (stores_at (part_replies f ram part) 640 i below);
       sum-of-part = λ f ram part answers wear e none.
           rw (part-wear f ram part answers wear e none)
-          (run-total (as_panel f.left f.right ram) (joined_to f.progress part) (part-panel f ram part answers wear none));
+          (run-total (as_panel f.chips.left f.chips.right ram) (joined_to f.progress part) (part-panel f ram part answers wear none));
       none-completed = none-completed;
     }

@@ -65,7 +65,7 @@ module _ (f : Feed) (ram part answers wear : List ℕ) where
   open_leaves =
       let bytes = joined_to f.progress part in
       unless_refused (part_wear_table f ram part answers wear) (λ n at. with_wear (not_taken f ram answers n at) wear)
-      (with_wear (took_part f bytes (ended_bytes (as_panel f.left f.right ram) bytes answers)) (wear_of (part_replies f ram part)))
+      (with_wear (took_part f bytes (ended_bytes (as_panel f.chips.left f.chips.right ram) bytes answers)) (wear_of (part_replies f ram part)))
 
   by-its-ending : {e : Ending} → f.progress.ending ≡ e
       → part_with_wear f ram part answers wear ≡ unless_stopped e (λ n at. with_wear (not_taken f ram answers n at) wear) open_leaves
@@ -101,7 +101,7 @@ module _ (f : Feed) (ram part answers wear : List ℕ) where
       bytes = joined_to f.progress part
 
       took : PartOutcome
-      took = took_part f bytes (ended_bytes (as_panel f.left f.right ram) bytes answers)
+      took = took_part f bytes (ended_bytes (as_panel f.chips.left f.chips.right ram) bytes answers)
 
       stop : (e : Ending)
           → unless_stopped e (λ n at. with_wear (not_taken f ram answers n at) wear)

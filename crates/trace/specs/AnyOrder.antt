@@ -3,7 +3,7 @@
 use Rattle.std.specs.Prelude.{ℕ, ◌*◌, ◌/◌, ◌%◌, ◌<◌, ◌≤◌, ◌≡◌, List, ◌↔◌, length, get_or}
 use Rattle.basics.specs.Keys.{of_key, Exchanges, Answered, answered_of_key}
 use Rattle.basics.specs.Lists.{pieces}
-use Rattle.basics.specs.Verdict.{Result}
+use Rattle.basics.specs.Verdict.{CallResult}
 use Rattle.panel.specs.AnyOrder.{chip_of}
 use Rattle.panel.specs.Panel.{image_length, Panel, Whole}
 use Rattle.sed1520.specs.Records.{whole_records}
@@ -47,7 +47,7 @@ answered_of k trace answers = answered_of_key chip_of k (whole_records trace) (p
 
 -- what is the same after calls on a trace and on its reordering: number, place and both counts, so that where the first is accepted the second is
 -- too; the answers, such that the j-th record of each chip has the same one in both; the chips, by value, as bytes or in a feed; and the RAM
-pub record SameEnd {S : Type 0} (trace other : List ℕ) (one two : Result Tally (Lent S)) : Type 0 where
+pub record SameEnd {S : Type 0} (trace other : List ℕ) (one two : CallResult Tally (Lent S)) : Type 0 where
   pub reported : one.answer ≡ two.answer
   pub answers : (k : ℕ) → answered_of k trace one.lent.answers ≡ answered_of k other two.lent.answers
   pub state : one.lent.state ≡ two.lent.state

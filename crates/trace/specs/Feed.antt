@@ -3,9 +3,10 @@
 use Rattle.std.specs.Prelude.{ℕ, ◌+◌, ◌*◌, ◌/◌, Bool, ◌||◌, List, [], ◌∷◌, ◌++◌, ltb, eqb, length, get_or, take, drop}
 use Rattle.basics.specs.Choice.{if}
 use Rattle.basics.specs.Table.{Cause, cause, left_then_right, unless_refused, verdict_by}
-use Rattle.basics.specs.Verdict.{verdict, Result, result_of}
-use Rattle.basics.specs.declared.verdict.Verdict.{Verdict}
+use Rattle.basics.specs.Verdict.{verdict, CallResult, result_of}
+use Rattle.basics.specs.Verdict.{Verdict}
 use Rattle.sed1520.specs.declared.registers.Chip.{Chip}
+use Rattle.panel.specs.Chips.{as_chips}
 use Rattle.panel.specs.Panel.{as_panel}
 use Rattle.sed1520.specs.Chip.{out_of_range}
 use Rattle.trace.specs.Replay.{ReplayOutcome, ended_bytes, sizes_wrong}
@@ -79,7 +80,7 @@ progress_wrong t = ltb 3 t.kept || (ltb t.records t.compared || ltb t.compared t
 
 -- the feed of two chips and a progress
 abbrev pub as_feed : Chip → Chip → Progress → Feed
-as_feed left right t = record { left = left; right = right; progress = t }
+as_feed left right t = record { chips = as_chips left right; progress = t }
 
 -- number 2 of a feed, by whether the left chip and the right one are out of range and by its progress: left, right, then place 3
 abbrev pub feed_table : Bool → Bool → Progress → List Cause
@@ -124,7 +125,7 @@ unless_stopped (Stopped n at) repeat go = repeat n at
 
 -- what a part gives back, and what it leaves: the feed, the image and the answer buffer
 abbrev pub PartOutcome : Type 0
-PartOutcome = Result Tally (Lent Feed)
+PartOutcome = CallResult Tally (Lent Feed)
 
 -- what a part by value gives back, with the image and the answers afterwards
 abbrev pub part_outcome : Fed → List ℕ → List ℕ → PartOutcome
@@ -158,8 +159,8 @@ took_part f bytes o =
 unfoldable pub open_part : Feed → List ℕ → List ℕ → List ℕ → PartOutcome
 open_part f ram part answers =
     let bytes = joined_to f.progress part in
-    unless_refused (part_table (out_of_range f.left) (out_of_range f.right) f.progress (length ram) (length part) (length answers))
-    (not_taken f ram answers) (took_part f bytes (ended_bytes (as_panel f.left f.right ram) bytes answers))
+    unless_refused (part_table (out_of_range f.chips.left) (out_of_range f.chips.right) f.progress (length ram) (length part) (length answers))
+    (not_taken f ram answers) (took_part f bytes (ended_bytes (as_panel f.chips.left f.chips.right ram) bytes answers))
 
 -- a part given to a feed
 unfoldable pub part_of : Feed → List ℕ → List ℕ → List ℕ → PartOutcome
@@ -169,13 +170,13 @@ part_of f ram part answers = unless_stopped f.progress.ending (not_taken f ram a
 abbrev pub stopped_with : Feed → ℕ → Fed
 stopped_with f n =
     let t = f.progress in
-    fed_with (as_feed f.left f.right (stopped_at n t.records t)) n t.records
+    fed_with (as_feed f.chips.left f.chips.right (stopped_at n t.records t)) n t.records
 
 -- the closing of a feed that is open: number 2, which leaves it open; then 3 where bytes are kept over, else 0. In the code the count of records has
 -- 32 bits, so number 13 has no cause here
 unfoldable pub open_close : Feed → Fed
 open_close f =
-    unless_refused (feed_table (out_of_range f.left) (out_of_range f.right) f.progress) (fed_with f)
+    unless_refused (feed_table (out_of_range f.chips.left) (out_of_range f.chips.right) f.progress) (fed_with f)
     (stopped_with f (if (eqb f.progress.kept 0) 0 3))
 
 -- the closing of a feed: a stopped one repeats, an open one is closed

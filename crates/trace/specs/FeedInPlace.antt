@@ -21,7 +21,7 @@ fed_in_place t n at = record { tally = so_far t n at; progress = t }
 abbrev pub part_over_bytes : List ℕ → PartOutcome → InPlace FedInPlace
 part_over_bytes chips o =
     let f = o.lent.state in
-    in_place (record { tally = o.answer; progress = f.progress }) (rewritten chips f.left f.right) o.lent.ram o.lent.answers
+    in_place (record { tally = o.answer; progress = f.progress }) (rewritten chips f.chips.left f.chips.right) o.lent.ram o.lent.answers
 
 -- a stopped feed repeats its number and place before any other test; then number 1 for chips that are not 24 bytes, which are no feed; then the
 -- part given to the feed read from the bytes

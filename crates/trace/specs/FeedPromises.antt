@@ -58,7 +58,7 @@ BuffersFit kept (x ∷ xs) =
 -- of a feed that is opened, fed and closed, number, place, counts, chips, image and answers are those of the replay
 pub record AsReplayed (p : Panel) (trace buffer : List ℕ) (xs : List Part) : Type 0 where
   pub reported : (close_of (fed_from p xs).lent.state).tally ≡ (replay_of p trace buffer).answer
-  pub panel : let f = (close_of (fed_from p xs).lent.state).feed in as_panel f.left f.right (fed_from p xs).lent.ram
+  pub panel : let f = (close_of (fed_from p xs).lent.state).feed in as_panel f.chips.left f.chips.right (fed_from p xs).lent.ram
       ≡ panel_after (replay_of p trace buffer)
   pub answers : let o = replay_of p trace buffer in (fed_from p xs).lent.answers ≡ take (2 * o.answer.place) o.lent.answers
 
@@ -155,8 +155,8 @@ pub record EveryRun : Type 0 where
 pub record ClosesAfter (p : Panel) (bytes : List ℕ) : Type 0 where
   pub reported : let r = trace_run p bytes in (close_of (feed_after r bytes)).tally
       ≡ tally (if (eqb (length bytes % 4) 0) 0 3) (length bytes / 4) (compared_in r.answers) (differing_in r.answers (whole_records bytes))
-  pub left : (close_of (feed_after (trace_run p bytes) bytes)).feed.left ≡ (trace_run p bytes).state.left
-  pub right : (close_of (feed_after (trace_run p bytes) bytes)).feed.right ≡ (trace_run p bytes).state.right
+  pub left : (close_of (feed_after (trace_run p bytes) bytes)).feed.chips.left ≡ (trace_run p bytes).state.left
+  pub right : (close_of (feed_after (trace_run p bytes) bytes)).feed.chips.right ≡ (trace_run p bytes).state.right
 
 -- a feed closes as ClosesAfter says after any bytes, however many, whose records are all accepted
 abbrev pub FeedsClose : Type 0

@@ -39,9 +39,9 @@ pub record FeedNumbers : Type 0 where
   pub opened : (left right : Chip) → ExactlyWhen (feed_table (out_of_range left) (out_of_range right) (begun Open)) (verdict 0 0)
       (tally_verdict (open_of left right).tally)
   pub part : (f : Feed) (ram part answers : List ℕ) → f.progress.ending ≡ Open → let bytes = joined_to f.progress part in
-      ExactlyWhen (part_table (out_of_range f.left) (out_of_range f.right) f.progress (length ram) (length part) (length answers))
-      (tally_verdict (took_part f bytes (ended_bytes (as_panel f.left f.right ram) bytes answers)).answer)
+      ExactlyWhen (part_table (out_of_range f.chips.left) (out_of_range f.chips.right) f.progress (length ram) (length part) (length answers))
+      (tally_verdict (took_part f bytes (ended_bytes (as_panel f.chips.left f.chips.right ram) bytes answers)).answer)
       (tally_verdict (part_of f ram part answers).answer)
   pub closed : (f : Feed) → f.progress.ending ≡ Open
-      → ExactlyWhen (feed_table (out_of_range f.left) (out_of_range f.right) f.progress)
+      → ExactlyWhen (feed_table (out_of_range f.chips.left) (out_of_range f.chips.right) f.progress)
       (verdict (if (eqb f.progress.kept 0) 0 3) f.progress.records) (tally_verdict (close_of f).tally)

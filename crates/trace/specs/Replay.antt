@@ -3,8 +3,8 @@ use Rattle.std.specs.Prelude.{ℕ, ◌*◌, ◌/◌, Bool, not, ◌&&◌, List, 
 use Rattle.basics.specs.Choice.{if}
 use Rattle.basics.specs.Run.{Run}
 use Rattle.basics.specs.Table.{Cause, cause, unless_refused}
-use Rattle.basics.specs.Verdict.{verdict, Result, result_of}
-use Rattle.basics.specs.declared.verdict.Verdict.{Verdict}
+use Rattle.basics.specs.Verdict.{verdict, CallResult, result_of}
+use Rattle.basics.specs.Verdict.{Verdict}
 use Rattle.sed1520.specs.Chip.{out_of_range}
 use Rattle.sed1520.specs.ChipBytes.{chip_length, bytes_pass}
 use Rattle.sed1520.specs.Cycle.{Reply}
@@ -25,7 +25,7 @@ tally_verdict r = verdict r.number r.place
 
 -- what a replay by value gives back and leaves
 abbrev pub ReplayOutcome : Type 0
-ReplayOutcome = Result Tally (Lent Chips)
+ReplayOutcome = CallResult Tally (Lent Chips)
 
 -- what a replay gives back and leaves: number, place and counts, with the panel and the answer buffer afterwards
 abbrev pub ended_at : ℕ → ℕ → ℕ → ℕ → Panel → List ℕ → ReplayOutcome
@@ -67,7 +67,8 @@ replay_of p trace answers =
 
 -- what the code's replay by value gives back and leaves in what it was lent, as an outcome
 abbrev pub replay_outcome : Replayed → List ℕ → List ℕ → ReplayOutcome
-replay_outcome r ram answers = ended_at r.number r.place r.compared r.differing (as_panel r.left r.right ram) answers
+replay_outcome r ram answers =
+    let t = r.tally in ended_at t.number t.place t.compared t.differing (as_panel r.chips.left r.chips.right ram) answers
 
 -- bytes of both chips that number 2 lets pass become those of a panel's chips; any others stay
 abbrev pub rewritten : List ℕ → Chip → Chip → List ℕ

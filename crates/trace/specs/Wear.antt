@@ -54,12 +54,13 @@ replay_with_wear p trace answers wear =
 
 -- the answers to the records that a part of a feed completes, up to the first that is refused
 abbrev pub part_replies : Feed → List ℕ → List ℕ → List Reply
-part_replies f ram part = (trace_run (as_panel f.left f.right ram) (joined_to f.progress part)).answers
+part_replies f ram part = (trace_run (as_panel f.chips.left f.chips.right ram) (joined_to f.progress part)).answers
 
 -- numbers 1, 13 and 2 of a part that is lent wear
 abbrev pub part_wear_table : Feed → List ℕ → List ℕ → List ℕ → List ℕ → List Cause
 part_wear_table f ram part answers wear =
-    wear_table (length wear) (part_table (out_of_range f.left) (out_of_range f.right) f.progress (length ram) (length part) (length answers))
+    wear_table (length wear)
+    (part_table (out_of_range f.chips.left) (out_of_range f.chips.right) f.progress (length ram) (length part) (length answers))
 
 -- a part that is lent wear, given to a feed: a stopped feed repeats, before any other test; numbers 1, 13 and 2; these leave the wear as it came.
 -- Then the records, with the wear of their run
@@ -68,7 +69,7 @@ part_with_wear f ram part answers wear =
     let bytes = joined_to f.progress part in
     unless_stopped f.progress.ending (λ n at. with_wear (not_taken f ram answers n at) wear)
     (unless_refused (part_wear_table f ram part answers wear) (λ n at. with_wear (not_taken f ram answers n at) wear)
-    (with_wear (took_part f bytes (ended_bytes (as_panel f.left f.right ram) bytes answers)) (wear_of (part_replies f ram part))))
+    (with_wear (took_part f bytes (ended_bytes (as_panel f.chips.left f.chips.right ram) bytes answers)) (wear_of (part_replies f ram part))))
 
 -- wear of any length after a replay over chip bytes: as it came where numbers 1 to 3 refuse, else that of the run
 unfoldable pub replay_wear : List ℕ → List ℕ → List ℕ → List ℕ → List ℕ → List ℕ
@@ -79,7 +80,8 @@ replay_wear chips ram trace answers wear =
 -- wear of any length after a part is given to a feed that is open: as it came where numbers 1, 13 and 2 refuse, else that of the run
 unfoldable pub open_part_wear : Feed → List ℕ → List ℕ → List ℕ → List ℕ → List ℕ
 open_part_wear f ram part answers wear =
-    unless_refused (part_table (out_of_range f.left) (out_of_range f.right) f.progress (length ram) (length part) (length answers)) (λ n at. wear)
+    unless_refused
+    (part_table (out_of_range f.chips.left) (out_of_range f.chips.right) f.progress (length ram) (length part) (length answers)) (λ n at. wear)
     (stores_in (part_replies f ram part) (length wear))
 
 -- wear of any length after a part is given over chip bytes: as it came where the feed is stopped or the chips are not 24 bytes

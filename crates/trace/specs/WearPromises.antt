@@ -31,7 +31,7 @@ pub record WearNumbers : Type 0 where
       (tally_verdict (replay_with_wear p trace answers wear).outcome.answer)
   pub part : (f : Feed) (ram part answers wear : List ℕ) → f.progress.ending ≡ Open → let bytes = joined_to f.progress part in
       ExactlyWhen (part_wear_table f ram part answers wear)
-      (tally_verdict (took_part f bytes (ended_bytes (as_panel f.left f.right ram) bytes answers)).answer)
+      (tally_verdict (took_part f bytes (ended_bytes (as_panel f.chips.left f.chips.right ram) bytes answers)).answer)
       (tally_verdict (part_with_wear f ram part answers wear).outcome.answer)
 
 -- "numbers 1 to 3, 13 and a stopped feed leave the row": and all else that was lent
@@ -54,10 +54,10 @@ pub record WearCounted : Type 0 where
   pub each-of-part : (f : Feed) (ram part answers wear : List ℕ) → f.progress.ending ≡ Open → NoneHolds (part_wear_table f ram part answers wear)
       → (i : ℕ) → i < image_length
       → get_or (part_with_wear f ram part answers wear).wear i 0
-      ≡ stores_to i (replies_to (as_panel f.left f.right ram) (joined_to f.progress part))
+      ≡ stores_to i (replies_to (as_panel f.chips.left f.chips.right ram) (joined_to f.progress part))
   pub sum-of-part : (f : Feed) (ram part answers wear : List ℕ) → f.progress.ending ≡ Open → NoneHolds (part_wear_table f ram part answers wear)
       → total (part_with_wear f ram part answers wear).wear
-      ≡ writes_finding (as_panel f.left f.right ram) (whole_records (joined_to f.progress part))
+      ≡ writes_finding (as_panel f.chips.left f.chips.right ram) (whole_records (joined_to f.progress part))
   pub none-completed : (f : Feed) (ram part answers wear : List ℕ) → f.progress.ending ≡ Open → NoneHolds (part_wear_table f ram part answers wear)
       → completed_by f.progress.kept (length part) ≡ 0 → (part_with_wear f ram part answers wear).wear ≡ replicate image_length 0
 

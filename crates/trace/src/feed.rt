@@ -4,6 +4,7 @@ ghost use Rattle.std.specs.Prelude.{◌+◌, ◌*◌, ◌/◌, ◌≤◌, ◌≡
 ghost use Rattle.panel.specs.Trace.{trace_limit, trace_run};
 ghost use Rattle.basics.specs.Choice.{if};
 ghost use Rattle.panel.specs.Chips.{chips_length, panel_in, BothPass};
+ghost use Rattle.basics.specs.Refusals.{refused_or};
 ghost use Rattle.basics.specs.Verdict.{verdict};
 ghost use Rattle.trace.specs.Replay.{ended_bytes, over_bytes};
 ghost use Rattle.sed1520.specs.Replies.{in_place};
@@ -15,33 +16,32 @@ ghost use Rattle.trace.specs.Wear.{stores_in, with_wear, part_with_wear, open_pa
 use crate::progress::{Ending, Progress};
 use crate::wear::clear;
 use crate::{run, sizes_wrong};
-use basics::verdict::Verdict;
-use panel::chips::{CHIPS_BYTES, IMAGE_BYTES, chips_bytes, chips_in};
+use basics::refusal::Refusal;
+use basics::verdict::Refused;
+use panel::chips::{CHIPS_BYTES, Chips, IMAGE_BYTES, chips_bytes, chips_in};
 use sed1520::bus::RECORD_BYTES;
 use sed1520::chip_bytes::{CHIP_BYTES, bytes_pass};
-use sed1520::registers::Chip;
 use sed1520::tally::{ANSWER_BYTES, Tally};
 
 // The most records that a feed may take.
 pub const MAX_RECORDS: u64 = 4294967295;
 
 // Both chips and what was taken so far.
-#[derive(Clone, Copy)]
+#[derive(Clone, Copy, Debug, PartialEq, Eq)]
 pub struct Feed {
-    pub left: Chip,
-    pub right: Chip,
+    pub chips: Chips,
     pub progress: Progress,
 }
 
 // What each call gives back: number, place and the counts so far; and the next feed.
-#[derive(Clone, Copy)]
+#[derive(Clone, Copy, Debug, PartialEq, Eq)]
 pub struct Fed {
     pub tally: Tally,
     pub feed: Feed,
 }
 
 // What a part given over chip bytes, which are rewritten, gives back: number, place and counts; and the next progress.
-#[derive(Clone, Copy)]
+#[derive(Clone, Copy, Debug, PartialEq, Eq)]
 pub struct FedInPlace {
     pub tally: Tally,
     pub progress: Progress,
@@ -59,28 +59,30 @@ fn too_many(records: u32, more: usize) -> bool
     requires { more ≤ trace_limit }
     ensures { result ≡ too_many records more }
 {
-    MAX_RECORDS < (records as u64) + (more as u64)
+    (records as u64) + (more as u64) > MAX_RECORDS
 }
 
-// Number 2 at place 3, or 0.
-fn progress_verdict(progress: Progress) -> Verdict
-    ensures { result ≡ if (progress_wrong progress) (verdict 2 3) (verdict 0 0) }
+// Number 2 at place 3.
+fn progress_verdict(progress: Progress) -> Result<(), Refused>
+    ensures { refused_or (verdict 0 0) result ≡ if (progress_wrong progress) (verdict 2 3) (verdict 0 0) }
 {
     if progress.wrong() {
-        return Verdict::new(2, 3);
+        return Err(Refused::new(Refusal::StateOutOfRange, 3));
     }
-    Verdict::new(0, 0)
+    Ok(())
 }
 
-// Number 2, or 0: the left chip, the right one, then place 3.
-fn state_verdict(left_out: bool, right_out: bool, progress: Progress) -> Verdict
-    ensures { result ≡ state_verdict left_out right_out progress }
+// Number 2: the left chip, the right one, then place 3.
+#[tactic(auto, unfolding(crate::specs::Feed::state_verdict))]
+fn state_verdict(left_out: bool, right_out: bool, progress: Progress) -> Result<(), Refused>
+    ensures { refused_or (verdict 0 0) result ≡ state_verdict left_out right_out progress }
 {
-    let own = progress_verdict(progress);
-    Verdict::unless(left_out, right_out, 2, own)
+    Refusal::StateOutOfRange.of_either(left_out, right_out)?;
+    progress_verdict(progress)
 }
 
-// Numbers 1, 13 and 2 of a part, or 0.
+// Numbers 1, 13 and 2 of a part.
+#[tactic(auto, unfolding(crate::specs::Feed::part_verdict, crate::specs::Feed::state_verdict))]
 fn part_verdict(
     left_out: bool,
     right_out: bool,
@@ -88,15 +90,15 @@ fn part_verdict(
     ram: usize,
     part: usize,
     answers: usize,
-) -> Verdict
-    ensures { result ≡ part_verdict left_out right_out progress ram part answers }
+) -> Result<(), Refused>
+    ensures { refused_or (verdict 0 0) result ≡ part_verdict left_out right_out progress ram part answers }
 {
     let more = completed(progress.kept, part);
     if sizes_wrong(part, more, ram, answers) {
-        return Verdict::new(1, 0);
+        return Err(Refused::new(Refusal::WrongSize, 0));
     }
     if too_many(progress.records, more) {
-        return Verdict::new(13, 0);
+        return Err(Refused::new(Refusal::TooManyRecords, 0));
     }
     state_verdict(left_out, right_out, progress)
 }
@@ -191,8 +193,7 @@ pub fn part_in_place(
     ensures { in_place result chips.new ram.new answers.new
         ≡ part_in_place chips.old progress ram.old part.now answers.old }
 {
-    let mut none = [0u32; 0];
-    part_counting(chips, progress, ram, part, answers, &mut none)
+    part_counting(chips, progress, ram, part, answers, &mut [])
 }
 
 // The same with what the part's records store to counted from 0, in wear of any length.
@@ -209,12 +210,11 @@ fn part_counting(
     ensures wear { wear.new
         ≡ part_wear chips.old progress ram.old part.now answers.old wear.old }
 {
-    let ending = progress.ending;
-    match ending {
+    match progress.ending {
         Ending::Stopped(number, place) => reported_in_place(progress, number, place as u64),
         Ending::Open => {
             if chips.len() != CHIPS_BYTES {
-                return reported_in_place(progress, 1, 0);
+                return reported_in_place(progress, Refusal::WrongSize.number(), 0);
             }
             open_part(chips, progress, ram, part, answers, wear)
         }
@@ -255,8 +255,8 @@ fn open_part(
         part.len(),
         answers.len(),
     );
-    if verdict.number != 0 {
-        return reported_in_place(progress, verdict.number, verdict.place);
+    if let Err(refused) = verdict {
+        return reported_in_place(progress, refused.refusal.number(), refused.place);
     }
     let tally = run_part(chips, progress, ram, part, answers, wear);
     let next = progress.moved_on(part, tally);
@@ -265,25 +265,17 @@ fn open_part(
 
 impl Feed {
     // A feed on two chips; stopped with number 2 where one of them is out of range.
-    pub fn open(left: Chip, right: Chip) -> Fed
-        ensures { result ≡ open_of left right }
+    pub fn open(chips: Chips) -> Fed
+        ensures { result ≡ open_of chips.left chips.right }
     {
         let progress = Progress::begun(Ending::Open);
-        let verdict = state_verdict(!left.in_range(), !right.in_range(), progress);
-        if verdict.number != 0 {
-            let feed = Feed {
-                left,
-                right,
-                progress: Progress::begun(Ending::Stopped(verdict.number, verdict.place as u32)),
-            };
-            return reported(feed, verdict.number, verdict.place);
+        let verdict = state_verdict(!chips.left.in_range(), !chips.right.in_range(), progress);
+        if let Err(refused) = verdict {
+            let number = refused.refusal.number();
+            let progress = Progress::begun(Ending::Stopped(number, refused.place as u32));
+            return reported(Feed { chips, progress }, number, refused.place);
         }
-        let feed = Feed {
-            left,
-            right,
-            progress,
-        };
-        reported(feed, 0, 0)
+        reported(Feed { chips, progress }, 0, 0)
     }
 
     // The next part of the trace, over the image of both chips: two answer bytes for each record that it completes. It fills
@@ -296,43 +288,35 @@ impl Feed {
         if wear.len() != IMAGE_BYTES {
             return self.wrong_wear();
         }
-        let left = self.left;
-        let right = self.right;
-        let progress = self.progress;
-        let mut chips = chips_bytes(left, right);
-        let went = part_counting(&mut chips, progress, ram, part, answers, wear);
-        let both = chips_in(&chips);
-        let next_left = both.left;
-        let next_right = both.right;
-        let next = went.progress;
-        let tally = went.tally;
+        let mut bytes = chips_bytes(self.chips);
+        let went = part_counting(&mut bytes, self.progress, ram, part, answers, wear);
+        let chips = chips_in(&bytes);
         let feed = Feed {
-            left: next_left,
-            right: next_right,
-            progress: next,
+            chips,
+            progress: went.progress,
         };
-        Fed { tally, feed }
+        Fed {
+            tally: went.tally,
+            feed,
+        }
     }
 
     // A part that comes with wear that is not 640 counts: a stopped feed repeats, an open one refuses by number 1.
     fn wrong_wear(self) -> Fed
         ensures { result ≡ unless_stopped self.progress.ending (fed_with self) (fed_with self 1 0) }
     {
-        let progress = self.progress;
-        let ending = progress.ending;
-        match ending {
+        match self.progress.ending {
             Ending::Stopped(number, at) => reported(self, number, at as u64),
-            Ending::Open => reported(self, 1, 0),
+            Ending::Open => reported(self, Refusal::WrongSize.number(), 0),
         }
     }
 
     // The end of the trace: number 3 where bytes are kept over. The feed is then stopped.
+    #[tactic(auto, unfolding(crate::specs::Feed::close_of))]
     pub fn close(self) -> Fed
         ensures { result ≡ close_of self }
     {
-        let progress = self.progress;
-        let ending = progress.ending;
-        match ending {
+        match self.progress.ending {
             Ending::Stopped(number, place) => reported(self, number, place as u64),
             Ending::Open => open_close(self),
         }
@@ -343,41 +327,34 @@ impl Feed {
 fn open_close(feed: Feed) -> Fed
     ensures { result ≡ open_close feed }
 {
-    let left = feed.left;
-    let right = feed.right;
-    let progress = feed.progress;
-    let verdict = state_verdict(!left.in_range(), !right.in_range(), progress);
-    if verdict.number != 0 {
-        return reported(feed, verdict.number, verdict.place);
+    let chips = feed.chips;
+    let verdict = state_verdict(
+        !chips.left.in_range(),
+        !chips.right.in_range(),
+        feed.progress,
+    );
+    if let Err(refused) = verdict {
+        return reported(feed, refused.refusal.number(), refused.place);
     }
-    if progress.kept == 0 {
+    if feed.progress.kept == 0 {
         return stopped(feed, 0);
     }
-    stopped(feed, 3)
+    stopped(feed, Refusal::CutRecord.number())
 }
 
 // A feed stopped with a number at the records since its opening.
 fn stopped(feed: Feed, number: u8) -> Fed
     ensures { result ≡ stopped_with feed number }
 {
-    let left = feed.left;
-    let right = feed.right;
-    let progress = feed.progress;
-    let records = progress.records;
-    let next = progress.stopped(number, records);
-    let after = Feed {
-        left,
-        right,
-        progress: next,
-    };
-    reported(after, number, records as u64)
+    let records = feed.progress.records;
+    let progress = feed.progress.stopped(number, records);
+    reported(Feed { progress, ..feed }, number, records as u64)
 }
 
 // A feed with a number, its place and the feed's counts so far.
 fn reported(feed: Feed, number: u8, place: u64) -> Fed
     ensures { result ≡ fed_with feed number place }
 {
-    let progress = feed.progress;
-    let tally = progress.so_far(number, place);
+    let tally = feed.progress.so_far(number, place);
     Fed { tally, feed }
 }

@@ -18,8 +18,7 @@ pub fn give_part(
     ensures { with_wear (part_outcome (as_fed result feed.new) ram.new answers.new) wear.new
         ≡ part_with_wear feed.old ram.old part.now answers.old wear.old }
 {
-    let held = *feed;
-    let fed = held.part(ram, part, answers, wear);
+    let fed = feed.part(ram, part, answers, wear);
     *feed = fed.feed;
     fed.tally
 }
@@ -28,8 +27,7 @@ pub fn give_part(
 pub fn close_feed(feed: &mut Feed) -> Tally
     ensures { as_fed result feed.new ≡ close_of feed.old }
 {
-    let held = *feed;
-    let closed = held.close();
+    let closed = feed.close();
     *feed = closed.feed;
     closed.tally
 }

@@ -17,23 +17,19 @@ ghost use Rattle.trace.specs.Replay.{replay_outcome, ended_bytes, sizes_wrong, o
 ghost use Rattle.trace.specs.Wear.{with_wear, replay_with_wear, replay_wear, AtMost, worn};
 
 use crate::wear::{clear, run_counting};
-use panel::chips::{CHIPS_BYTES, IMAGE_BYTES, chips_bytes, chips_in};
+use basics::refusal::Refusal;
+use basics::verdict::Refused;
+use panel::chips::{CHIPS_BYTES, Chips, IMAGE_BYTES, chips_bytes, chips_in};
 use panel::trace::trace_verdict;
 use sed1520::bus::RECORD_BYTES;
 use sed1520::chip_bytes::{CHIP_BYTES, bytes_pass};
-use sed1520::registers::Chip;
 use sed1520::tally::{ANSWER_BYTES, Tally};
 
-// What a replay gives back beside what it was lent: the number and its place, how many reads were compared with the
-// trace and how many of these differ, and both chips.
-#[derive(Clone, Copy)]
+// What a replay gives back beside what it was lent: the number and its place with both counts, and both chips.
+#[derive(Clone, Copy, Debug, PartialEq, Eq)]
 pub struct Replayed {
-    pub number: u8,
-    pub place: u64,
-    pub compared: u64,
-    pub differing: u64,
-    pub left: Chip,
-    pub right: Chip,
+    pub tally: Tally,
+    pub chips: Chips,
 }
 
 // The records one after the other on chip bytes that number 2 lets pass, up to the first that is refused; each of their
@@ -67,9 +63,9 @@ pub(crate) fn run(
             &mut answers[ANSWER_BYTES * at..],
             wear,
         );
-        compared = compared + went.compared;
-        differing = differing + went.differing;
-        at = at + (went.place as usize);
+        compared += went.compared;
+        differing += went.differing;
+        at += went.place as usize;
         if went.number != 0 {
             return Tally {
                 number: went.number,
@@ -93,8 +89,7 @@ pub fn replay_in_place(chips: &mut [u8], ram: &mut [u8], trace: &[u8], answers: 
     ensures { in_place result chips.new ram.new answers.new
         ≡ replay_in_place chips.old ram.old trace.now answers.old }
 {
-    let mut none = [0u32; 0];
-    replay_counting(chips, ram, trace, answers, &mut none)
+    replay_counting(chips, ram, trace, answers, &mut [])
 }
 
 // The same with what the records store to counted from 0, in wear of any length.
@@ -111,7 +106,7 @@ fn replay_counting(
         ≡ replay_wear chips.old ram.old trace.now answers.old wear.old }
 {
     if chips.len() != CHIPS_BYTES {
-        return Tally::nothing_run(1, 0);
+        return Tally::refused(Refused::new(Refusal::WrongSize, 0));
     }
     let wrong = sizes_wrong(
         trace.len(),
@@ -121,9 +116,8 @@ fn replay_counting(
     );
     let left_out = !bytes_pass(&chips[..CHIP_BYTES]);
     let right_out = !bytes_pass(&chips[CHIP_BYTES..]);
-    let verdict = trace_verdict(wrong, left_out, right_out, trace.len());
-    if verdict.number != 0 {
-        return Tally::nothing_run(verdict.number, verdict.place);
+    if let Err(refused) = trace_verdict(wrong, left_out, right_out, trace.len()) {
+        return Tally::refused(refused);
     }
     clear(wear);
     run(chips, ram, trace, answers, wear)
@@ -133,39 +127,23 @@ fn replay_counting(
 // how many of the records that were accepted stored to each byte of the image. Other than 640 counts are refused by number 1;
 // numbers 1 to 3 leave them as they came.
 pub fn replay(
-    left: Chip,
-    right: Chip,
+    chips: Chips,
     ram: &mut [u8],
     trace: &[u8],
     answers: &mut [u8],
     wear: &mut [u32],
 ) -> Replayed
     ensures { with_wear (replay_outcome result ram.new answers.new) wear.new
-        ≡ replay_with_wear (as_panel left right ram.old) trace.now answers.old wear.old }
+        ≡ replay_with_wear (as_panel chips.left chips.right ram.old) trace.now answers.old wear.old }
 {
     if wear.len() != IMAGE_BYTES {
-        return Replayed {
-            number: 1,
-            place: 0,
-            compared: 0,
-            differing: 0,
-            left,
-            right,
-        };
+        let tally = Tally::refused(Refused::new(Refusal::WrongSize, 0));
+        return Replayed { tally, chips };
     }
-    let mut chips = chips_bytes(left, right);
-    let tally = replay_counting(&mut chips, ram, trace, answers, wear);
-    let both = chips_in(&chips);
-    let next_left = both.left;
-    let next_right = both.right;
-    Replayed {
-        number: tally.number,
-        place: tally.place,
-        compared: tally.compared,
-        differing: tally.differing,
-        left: next_left,
-        right: next_right,
-    }
+    let mut bytes = chips_bytes(chips);
+    let tally = replay_counting(&mut bytes, ram, trace, answers, wear);
+    let chips = chips_in(&bytes);
+    Replayed { tally, chips }
 }
 
 // Number 1 of a call that answers so many records.

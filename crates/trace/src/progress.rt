@@ -7,7 +7,7 @@ use sed1520::bus::RECORD_BYTES;
 use sed1520::tally::Tally;
 
 // Whether a feed takes parts, or is stopped with the number and the place that it repeats.
-#[derive(Clone, Copy)]
+#[derive(Clone, Copy, Debug, PartialEq, Eq)]
 pub enum Ending {
     Open,
     Stopped(u8, u32),
@@ -15,7 +15,7 @@ pub enum Ending {
 
 // What a feed holds beside its chips: how many bytes are kept over and which, the records taken since the opening, how
 // many reads were compared, how many of these differ, and the ending.
-#[derive(Clone, Copy)]
+#[derive(Clone, Copy, Debug, PartialEq, Eq)]
 pub struct Progress {
     pub kept: u8,
     pub first: u8,
@@ -49,14 +49,8 @@ impl Progress {
         ensures { result ≡ stopped_at number place self }
     {
         Progress {
-            kept: self.kept,
-            first: self.first,
-            second: self.second,
-            third: self.third,
-            records: self.records,
-            compared: self.compared,
-            differing: self.differing,
             ending: Ending::Stopped(number, place),
+            ..self
         }
     }
 
@@ -73,16 +67,11 @@ impl Progress {
     }
 
     // Number 2 at place 3: over 3 bytes kept, more compared than records, or more differing than compared.
+    #[tactic(auto, using(std::proofs::lemmas::Bool::Decides::nat_tests), unfolding(crate::specs::Feed::progress_wrong))]
     pub(crate) fn wrong(self) -> bool
         ensures { result ≡ progress_wrong self }
     {
-        if 3 < self.kept {
-            return true;
-        }
-        if self.records < self.compared {
-            return true;
-        }
-        self.compared < self.differing
+        self.kept > 3 || self.compared > self.records || self.differing > self.compared
     }
 
     // A byte of those kept over and the part after them; 0 past the end.
@@ -91,24 +80,19 @@ impl Progress {
         ensures { result ≡ get_or (joined_to self part.now) at 0 }
     {
         let kept = self.kept as usize;
-        if at < kept {
-            if at == 0 {
-                return self.first;
-            }
-            if at == 1 {
-                return self.second;
-            }
-            return self.third;
+        if at >= kept {
+            return part.get(at - kept).copied().unwrap_or(0);
         }
-        let place = at - kept;
-        if place < part.len() {
-            return part[place];
+        match at {
+            0 => self.first,
+            1 => self.second,
+            _ => self.third,
         }
-        0
     }
 
     // After a part's records: the counts go on; done, what is past the last whole record is kept over; refused, the feed is
     // stopped.
+    #[tactic(auto, using(std::proofs::lemmas::Bool::Decides::nat_tests), unfolding(crate::specs::Feed::moved_on))]
     pub(crate) fn moved_on(self, part: &[u8], tally: Tally) -> Progress
         requires kept_bound { self.kept ≤ 3 }
         requires part_len_bound { length part.now ≤ trace_limit }
@@ -122,27 +106,19 @@ impl Progress {
         let differing = self.differing + (tally.differing as u32);
         if tally.number != 0 {
             return Progress {
-                kept: 0,
-                first: 0,
-                second: 0,
-                third: 0,
                 records,
                 compared,
                 differing,
-                ending: Ending::Stopped(tally.number, records),
+                ..Progress::begun(Ending::Stopped(tally.number, records))
             };
         }
         let bytes = (self.kept as usize) + part.len();
         let from = RECORD_BYTES * (bytes / RECORD_BYTES);
-        let kept = (bytes % RECORD_BYTES) as u8;
-        let first = self.byte_at(part, from);
-        let second = self.byte_at(part, from + 1);
-        let third = self.byte_at(part, from + 2);
         Progress {
-            kept,
-            first,
-            second,
-            third,
+            kept: (bytes % RECORD_BYTES) as u8,
+            first: self.byte_at(part, from),
+            second: self.byte_at(part, from + 1),
+            third: self.byte_at(part, from + 2),
             records,
             compared,
             differing,

@@ -16,11 +16,7 @@ use sed1520::tally::Tally;
 pub(crate) fn clear(wear: &mut [u32])
     ensures { wear.new ≡ replicate (length wear.old) 0 }
 {
-    let mut at = 0;
-    while at < wear.len() {
-        wear[at] = 0;
-        at = at + 1;
-    }
+    wear.fill(0);
 }
 
 // One store more for each byte from one place up to another, which is not counted.
@@ -28,11 +24,9 @@ fn count_stores(wear: &mut [u32], from: usize, to: usize)
     requires { AtMost 4294967294 wear.old }
     ensures { wear.new ≡ raised wear.old from to }
 {
-    let end = if wear.len() < to { wear.len() } else { to };
-    let mut at = from;
-    while at < end {
-        wear[at] = wear[at] + 1;
-        at = at + 1;
+    let end = to.min(wear.len());
+    for count in &mut wear[from.min(end)..end] {
+        *count += 1;
     }
 }
 

@@ -5,37 +5,19 @@ use native.Mathlib.Numerals.{add-one}
 use mathlib.Core.Path.{◌≡◌}
 use mathlib.Core.Bool.{true, false}
 use mathlib.Core.List.{List, [], ◌∷◌, ◌++◌}
-use lib.Dec.{eqb}
 use lib.ListN.{length, get_or, take, drop, replicate}
 use lib.Seq.{take-suc, split_at, take_all}
-use borrow.Author.Tests.{eq-eqb, ne_eqb}
 use Rattle.basics.specs.Run.{as_run}
 use Rattle.basics.proofs.Run.{one_more, refused-next}
 use Rattle.sed1520.specs.Chip.{fresh}
 use Rattle.sed1520.specs.Cycle.{Reply, reply_of, outcome, cycle_of}
 use Rattle.sed1520.specs.Records.{front}
 use Rattle.sed1520.specs.declared.registers.Chip.{Chip}
-use Rattle.sed1520.specs.declared.actions.Answer.{Answer}
+use Rattle.sed1520.specs.Cycle.{Answer}
 use Rattle.vectors.specs.Cases.{case_agrees, case_step, cases_run, agrees_of}
-
-module _ (case : List ℕ) (a : Answer) where
-  pub wrong-number : (get_or case 4 0 ≡ a.number → ⊥) → case_agrees case a ≡ false
-  unfolding case_agrees
-  wrong-number h = rw (ne_eqb (get_or case 4 0) a.number h)
-
-  module _ (number : get_or case 4 0 ≡ a.number) where
-    pub wrong-kind : (get_or case 5 0 ≡ a.kind → ⊥) → case_agrees case a ≡ false
-    unfolding case_agrees
-    wrong-kind h = rw (eq-eqb (get_or case 4 0) a.number number, ne_eqb (get_or case 5 0) a.kind h)
-
-    pub byte_left : get_or case 5 0 ≡ a.kind → case_agrees case a ≡ eqb (get_or case 6 0) a.byte
-    unfolding case_agrees
-    byte_left h = rw (eq-eqb (get_or case 4 0) a.number number, eq-eqb (get_or case 5 0) a.kind h)
 
 -- the first cases have agreed and led to this chip and RAM
 pub record Agreed (cases : List (List ℕ)) (ram : List ℕ) (c : Chip) (at : ℕ) : Type 0 where
-  pub within : at ≤ length cases
-  pub image : length ram ≡ 320
   pub replies : List Reply
   pub run : cases_run (take at cases) ≡ as_run 0 replies (record { chip = c; ram = ram })
 
@@ -47,13 +29,11 @@ all-agreed {cases} {at = at} agreed h =
 
 module _ {cases : List (List ℕ)} {ram : List ℕ} {c : Chip} {at : ℕ} (agreed : Agreed cases ram c at) (more : at < length cases)
     {a : Answer} {after : List ℕ} (cycled : outcome a after ≡ cycle_of (front (get_or cases at [])) c ram) where
-  pub next-case : case_agrees (get_or cases at []) a ≡ true → length after ≡ 320 → Agreed cases after a.chip (at + 1)
-  next-case t image =
+  pub next-case : case_agrees (get_or cases at []) a ≡ true → Agreed cases after a.chip (at + 1)
+  next-case t =
       let added = one_more case_step (record { chip = fresh; ram = replicate 320 0 }) (take at cases) agreed.run (get_or cases at [])
       (rw (← cycled, t)) in
       record {
-        within = omega arith;
-        image = image;
         replies = agreed.replies ++ (reply_of a ∷ []);
         run = rw (add-one at, take-suc cases at [] more) (rw (← cycled) at added);
       }

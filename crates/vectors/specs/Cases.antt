@@ -6,7 +6,7 @@ use Rattle.basics.specs.Run.{Step, Run, run_of}
 use Rattle.sed1520.specs.Chip.{fresh}
 use Rattle.sed1520.specs.Cycle.{Reply, ChipAndRam, cycle_of, chip_step}
 use Rattle.sed1520.specs.Records.{front}
-use Rattle.sed1520.specs.declared.actions.Answer.{Answer}
+use Rattle.sed1520.specs.Cycle.{Answer}
 
 -- whether the case says what the cycle answered
 unfoldable pub case_agrees : List ℕ → Answer → Bool

@@ -4,9 +4,11 @@
 #![tactic(auto)]
 
 ghost use Rattle.std.specs.Prelude.{◌≡◌, true};
+ghost use Rattle.sed1520.specs.Cycle.{answer_of};
 ghost use Rattle.vectors.specs.Cases.{case_agrees, agrees_of};
 
-use sed1520::actions::Answer;
+use basics::refusal::Refusal;
+use sed1520::actions::Accepted;
 use sed1520::bus::{Record, cycle};
 use sed1520::registers::Chip;
 
@@ -286,17 +288,17 @@ const LISTING: [[u8; CASE]; 9] = [
     [STATUS, LEFT, 0xA0, 0, DONE, STATUS_BYTE, 0x60],
 ];
 
-// Whether a case says what its record's cycle answered.
-fn case_agrees(case: [u8; CASE], answer: Answer) -> bool
-    ensures { result ≡ case_agrees case answer }
+// Whether a case says what its record's cycle answered: of a refused record its number, with no kind and no byte.
+#[tactic(auto, unfolding(crate::specs::Cases::case_agrees))]
+fn case_agrees(case: [u8; CASE], answer: Result<Accepted, Refusal>) -> bool
+    ensures { (c : Chip) → result ≡ case_agrees case (answer_of c answer) }
 {
-    if case[4] != answer.number {
-        return false;
+    match answer {
+        Ok(Accepted { reading, .. }) => {
+            case[4] == DONE && case[5] == reading.kind() && case[6] == reading.byte()
+        }
+        Err(refusal) => case[4] == refusal.number() && case[5] == NONE && case[6] == 0,
     }
-    if case[5] != answer.kind {
-        return false;
-    }
-    case[6] == answer.byte
 }
 
 // Whether each case's record is answered as the case says, from a fresh chip over RAM all 0.
@@ -305,21 +307,15 @@ fn agrees(cases: &[[u8; CASE]]) -> bool
 {
     let mut ram = [0u8; Chip::RAM_WIDTH];
     let mut chip = Chip::fresh();
-    let mut at = 0;
-    while at < cases.len() {
-        let case = cases[at];
-        let bus = Record {
-            lines: case[0],
-            chip: case[1],
-            byte: case[2],
-            spare: case[3],
-        };
+    for &case in cases {
+        let bus = Record::from([case[0], case[1], case[2], case[3]]);
         let answer = cycle(bus, chip, &mut ram);
         if !case_agrees(case, answer) {
             return false;
         }
-        chip = answer.chip;
-        at = at + 1;
+        if let Ok(accepted) = answer {
+            chip = accepted.chip;
+        }
     }
     true
 }

@@ -11,22 +11,24 @@ use lib.Seq.{take_all}
 use borrow.Author.Rules.{rules}
 use borrow.Author.Tests.{eq-eqb, ne_eqb, lt-ltb, le-ltb, ltb-false, not-false}
 use Rattle.basics.specs.Table.{Cause, cause, verdict_by, NoneHolds}
-use Rattle.basics.specs.Verdict.{verdict, Result, result_of}
-use Rattle.basics.specs.declared.verdict.Verdict.{Verdict}
+use Rattle.basics.specs.Verdict.{Verdict, verdict, CallResult, result_of}
+use Rattle.basics.specs.Refusals.{number_of}
+use Rattle.basics.specs.declared.verdict.Refused.{Refused}
+use Rattle.basics.proofs.Refusals.{refusal-number}
+use Rattle.std.specs.Prelude.{Result, Ok, Err}
 use Rattle.basics.proofs.Chosen.{chosen-few}
 use Rattle.basics.proofs.Run.{run_ends, answers-bound}
 use Rattle.basics.proofs.Table.{first-refuses, none-refuses, refusing-line, passing-table}
+use Rattle.basics.proofs.Table.{call-exactly, call-place, call-keeps, first-front, first-behind, none-behind}
 use Rattle.basics.proofs.Tests.{neither, no_other}
 use Rattle.sed1520.specs.Chip.{out_of_range}
 use Rattle.sed1520.specs.Records.{front, whole_records}
 use Rattle.sed1520.proofs.Records.{records-length}
 use Rattle.panel.specs.Panel.{Panel, panel_step, Whole}
 use Rattle.panel.specs.Trace.{trace_run, trace_sizes_wrong, trace_table}
-use Rattle.basics.proofs.Table.{call-exactly, call-place, call-keeps, first-front, first-behind, none-behind}
 use Rattle.visible.specs.Changes.{changed_at, Entry, entry_at, entries_before, all_entries, entries_bytes, changes_table, changes_of}
 use Rattle.visible.specs.Promises.{ChangesNumbers, EveryRefusalKeeps}
-use Rattle.visible.specs.Sight.{put_entries, entries_ran, walked_of}
-use Rattle.visible.specs.declared.walk.Walked.{Walked}
+use Rattle.visible.specs.Sight.{put_entries, entries_ran, Walked}
 
 -- sizes that number 1 lets pass
 sizes-right : (trace ram : ℕ) → trace_sizes_wrong trace ram false ≡ false → (trace ≤ 65536) × (ram ≡ 640)
@@ -36,7 +38,7 @@ sizes-right trace ram e =
     (ltb-false 65536 trace short.0, no_other ram 640 (neither (not (eqb ram 640)) false short.1).0)
 
 -- a buffer without room stays empty
-pub nothing_put : (entries : List Entry) → put_entries entries [] ≡ []
+nothing_put : (entries : List Entry) → put_entries entries [] ≡ []
 unfolding flat_map
 nothing_put entries = refl
 
@@ -53,14 +55,19 @@ module _ (p : Panel) (trace : List ℕ) where
   abbrev pub early : List Cause
   early = trace_table (trace_sizes_wrong (length trace) (length p.ram) false) (out_of_range p.left) (out_of_range p.right) (length trace) []
 
-  pub trace-passed : (v : Verdict) → v ≡ verdict_by early (verdict 0 0) → v.number ≡ 0 → NoneHolds early
-  trace-passed v e zero = passing-table early v 0 e (search rules) zero
+  -- the verdict where none of them is given
+  abbrev Passed : Type 0
+  Passed = verdict 0 0 ≡ verdict_by early (verdict 0 0)
+
+  none-early : Passed → NoneHolds early
+  none-early passed = passing-table early (verdict 0 0) 0 passed (search rules) refl
 
   -- chips and sizes past them
-  pub passes-whole : NoneHolds early → Whole p × (length trace ≤ 65536)
-  passes-whole pass =
-      let sizes = sizes-right (length trace) (length p.ram) pass.0 in
-      (record { left = not-false _ pass.1.0; right = not-false _ pass.1.1.0; image = sizes.1 }, sizes.0)
+  pub passes-whole : Passed → Whole p × (length trace ≤ 65536)
+  passes-whole passed =
+      let none = none-early passed in
+      let sizes = sizes-right (length trace) (length p.ram) none.0 in
+      (record { left = not-false _ none.1.0; right = not-false _ none.1.1.0; image = sizes.1 }, sizes.0)
 
 module _ (p : Panel) (trace buffer : List ℕ) where
   -- the lines past numbers 1 to 3, all lines, and what is given where one holds and where none does
@@ -73,54 +80,73 @@ module _ (p : Panel) (trace buffer : List ℕ) where
   abbrev table : List Cause
   table = changes_table p trace (length buffer)
 
-  abbrev kept : ℕ → ℕ → Result Verdict (List ℕ)
+  abbrev kept : ℕ → ℕ → CallResult Verdict (List ℕ)
   kept n at = result_of (verdict n at) buffer
 
-  abbrev given : Result Verdict (List ℕ)
+  abbrev given : CallResult Verdict (List ℕ)
   given = let all = entries p trace in result_of (verdict 0 (length all)) (entries_bytes all ++ drop (8 * length all) buffer)
 
-  pub trace-refused : (v : Verdict) → v ≡ verdict_by (early p trace) (verdict 0 0) → (v.number ≡ 0 → ⊥) → result_of v buffer ≡ changes_of p trace buffer
+  pub trace-refused : (v : Verdict) → v ≡ verdict_by (early p trace) (verdict 0 0) → (v.number ≡ 0 → ⊥)
+      → result_of v buffer ≡ changes_of p trace buffer
   unfolding changes_of
   trace-refused v e h = sym (first-refuses kept given table _ _ (first-front (early p trace) late _ _ (refusing-line (early p trace) v 0 e h)))
 
   -- none of numbers 1 to 3
-  module _ (pass : NoneHolds (early p trace)) where
-    -- what a walk over the records gave
-    module _ (w : Walked) (is-walk : w ≡ walked_of p trace) where
-      pub record-refused : (w.number ≡ 0 → ⊥) → changes_of p trace buffer ≡ kept w.number w.place
+  module _ (passed : Passed p trace) where
+    pass : NoneHolds (early p trace)
+    pass = none-early p trace passed
+
+    -- a first walk without room, which wrote nothing
+    unwritten : {came : Result ℕ Refused} {left : List ℕ} → Walked p trace [] came left → left ≡ []
+    unwritten first = first.put ∙ nothing_put (entries_ran p trace)
+
+    -- it was refused by a record
+    pub record-refused : {why : Refused} {left : List ℕ} → Walked p trace [] (Err why) left
+        → result_of (verdict (number_of why.refusal) why.place) (left ++ buffer) ≡ changes_of p trace buffer
+    unfolding changes_of
+    record-refused {why} first =
+        let run = trace_run p trace in
+        let nonzero : run.number ≡ 0 → ⊥ = λ e. refusal-number why.refusal (ap (λ (v : Verdict). v.number) first.ended ∙ e) in
+        rw (unwritten first, first.ended)
+        (sym (first-refuses kept given table _ _
+        (first-behind (early p trace) late _ _ pass (inl (rw (ne_eqb run.number 0 nonzero), (refl, refl))))))
+
+    -- it was not
+    module _ {listed : ℕ} {left : List ℕ} (first : Walked p trace [] (Ok listed) left) where
+      zero-number : (trace_run p trace).number ≡ 0
+      zero-number = sym (ap (λ (v : Verdict). v.number) first.ended)
+
+      -- all records ran, so their entries are all
+      all-ran : entries_ran p trace ≡ entries p trace
+      all-ran = ap (entries_before p (whole_records trace)) ((run_ends panel_step (front []) (whole_records trace) p).done zero-number)
+
+      how-many : {n : ℕ} → n ≡ length (entries_ran p trace) → n ≡ length (entries p trace)
+      how-many counted = counted ∙ ap (λ (l : List Entry). length l) all-ran
+
+      accepted : not (eqb (trace_run p trace).number 0) ≡ false
+      accepted = rw (eq-eqb (trace_run p trace).number 0 zero-number)
+
+      pub short : length (left ++ buffer) / 8 < listed → result_of (verdict 15 listed) (left ++ buffer) ≡ changes_of p trace buffer
       unfolding changes_of
-      record-refused h =
-          rw is-walk
-          (first-refuses kept given table _ _
-          (first-behind (early p trace) late _ _ pass (inl (rw (ne_eqb (trace_run p trace).number 0 (rw is-walk at h)), (refl, refl)))))
+      short h =
+          let many = how-many first.counted in
+          let full = rw (unwritten first) at h in
+          rw (unwritten first, many)
+          (sym (first-refuses kept given table _ _
+          (first-behind (early p trace) late _ _ pass
+          (inr (accepted, inl (lt-ltb (length buffer) (8 * length (entries p trace)) (omega (arith, full, many)), (refl, refl)))))))
 
-      module _ (done : w.number ≡ 0) where
-        -- all records ran, so their entries are all
-        all-ran : entries_ran p trace ≡ entries p trace
-        all-ran =
-            ap (entries_before p (whole_records trace)) ((run_ends panel_step (front []) (whole_records trace) p).done (rw is-walk at done))
-
-        how-many : w.entries ≡ length (entries p trace)
-        how-many = rw is-walk (ap (λ (l : List Entry). length l) all-ran)
-
-        accepted : not (eqb (trace_run p trace).number 0) ≡ false
-        accepted = rw (eq-eqb (trace_run p trace).number 0 (rw is-walk at done))
-
-        pub short : length buffer / 8 < w.entries → changes_of p trace buffer ≡ kept 15 w.entries
-        unfolding changes_of
-        short h =
-            rw how-many
-            (first-refuses kept given table _ _
-            (first-behind (early p trace) late _ _ pass
-            (inr (accepted, inl (lt-ltb (length buffer) (8 * length (entries p trace)) (omega (arith, how-many)), (refl, refl))))))
-
-        pub all_listed : w.entries ≤ length buffer / 8
-            → changes_of p trace buffer ≡ result_of (verdict 0 (length (entries_ran p trace))) (put_entries (entries_ran p trace) buffer)
-        unfolding changes_of
-        all_listed h =
-            none-refuses kept given table
-            (none-behind (early p trace) late pass (accepted, (le-ltb (length buffer) (8 * length (entries p trace)) (omega (arith, how-many)), tt)))
-            ∙ rw (all-ran, all-put (entries p trace) buffer (omega (arith, how-many)))
+      -- a second walk has the same entries
+      pub all_listed : listed ≤ length (left ++ buffer) / 8 → {n : ℕ} {after : List ℕ} → Walked p trace (left ++ buffer) (Ok n) after
+          → result_of (verdict 0 n) after ≡ changes_of p trace buffer
+      unfolding changes_of
+      all_listed h second =
+          let many = how-many first.counted in
+          let room = rw (unwritten first) at h in
+          let fits : length (entries p trace) ≤ length buffer / 8 = omega (arith, room, many) in
+          rw (second.put, unwritten first, how-many second.counted, all-ran, all-put (entries p trace) buffer fits)
+          (sym (none-refuses kept given table
+          (none-behind (early p trace) late pass (accepted, (le-ltb (length buffer) (8 * length (entries p trace)) (omega (arith, fits)), tt)))))
 
 pub changes-numbers : ChangesNumbers
 unfolding changes_of

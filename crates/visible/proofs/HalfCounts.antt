@@ -1,12 +1,15 @@
 -- How many pixels of a half differ: by segments as they are drawn, none where the same is shown, and those of one segment where all others show
 -- the same.
-use Prim.Native.Nat.{ℕ, ◌+◌, ◌*◌, ◌<◌, ◌≤◌}
+use Prim.Native.Nat.{ℕ, zero, suc, ◌+◌, ◌*◌, ◌<◌, ◌≤◌}
 use native.Mathlib.Omega.{arith}
-use mathlib.Core.Path.{◌≡◌, refl}
+use native.Mathlib.Numerals.{add-one}
+use mathlib.Core.Path.{◌≡◌, refl, ◌∙◌}
 use mathlib.Core.Bool.{Bool, not}
-use mathlib.Core.List.{List}
+use mathlib.Core.List.{List, map}
 use lib.Dec.{eqb}
 use borrow.Author.Tests.{eq-eqb}
+use Rattle.std.specs.List.{sum, range_with_len}
+use Rattle.std.proofs.lemmas.List.FromFn.{sum_by-map-range_with_len_more}
 use Rattle.basics.specs.Choice.{if}
 use Rattle.basics.specs.Counts.{sum_below, count_below}
 use Rattle.basics.proofs.Counts.{sum_same, sum_zeros, sum_one, sum-at-most}
@@ -28,6 +31,14 @@ count-at-most test n =
     let most = sum-at-most (λ i. if (test i) 1 0) 1 n (λ i _. when (λ (k : ℕ). k ≤ 1) (test i) (λ _. omega arith) (λ _. omega arith)) in
     omega (arith, most)
 
+-- a list's sum, where it is of the numbers below a bound
+sum-listed : (f : ℕ → ℕ) (n : ℕ) → sum (map f (range_with_len 0 n)) ≡ sum_below f n
+unfolding sum_below
+sum-listed f zero = refl
+sum-listed f (suc n) =
+    let more = rw (add-one n) at (sum_by-map-range_with_len_more (λ x. x) f 0 n n (omega arith)) in
+    omega (arith, more, sum-listed f n)
+
 module _ (c : Chip) (ram : List ℕ) (d : Chip) (other : List ℕ) where
   pub segment-counted : Fit c ram → Fit d other → (n : ℕ) → n < segments
       → bits_differing (segment_pixels c ram n).pixels (segment_pixels d other n).pixels ≡ segment_changed c ram d other n
@@ -41,6 +52,14 @@ module _ (c : Chip) (ram : List ℕ) (d : Chip) (other : List ℕ) where
         packed-bit (pixel d other n) (pixel-small d other n) 32 0 row h,
         e,
       ))
+
+  -- the pixels of the segments as they are drawn, added up
+  abbrev pub drawn : ℕ → ℕ
+  drawn n = bits_differing (segment_pixels c ram n).pixels (segment_pixels d other n).pixels
+
+  pub half-summed : Fit c ram → Fit d other → sum (map drawn (range_with_len 0 segments)) ≡ half_changed c ram d other
+  unfolding half_changed
+  half-summed fit fit' = sum-listed drawn segments ∙ sum_same drawn (segment_changed c ram d other) segments (segment-counted fit fit')
 
   pub same-segment : (n : ℕ) → SameShown c d ram other n → segment_changed c ram d other n ≡ 0
   same-segment n same =

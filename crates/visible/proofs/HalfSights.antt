@@ -11,8 +11,12 @@ use lib.ListN.{length}
 use borrow.Author.Tests.{eqb-true, ltb-true, ltb-false}
 use Rattle.basics.specs.Choice.{if}
 use Rattle.basics.specs.Counts.{sum_below}
+use Rattle.basics.specs.Refusals.{number_of}
+use Rattle.basics.specs.declared.refusal.Refusal.{Refusal}
+use Rattle.basics.proofs.Refusals.{failed-with, refusal-number}
 use Rattle.basics.proofs.Tests.{tested, both}
-use Rattle.sed1520.specs.Cycle.{Outcome, cycle_of}
+use Rattle.std.specs.Prelude.{Result, IsErrAnd}
+use Rattle.sed1520.specs.Cycle.{Outcome, outcome, refusal, cycle_of}
 use Rattle.sed1520.specs.Laws.{Fit, shown_by}
 use Rattle.sed1520.specs.declared.bus.Record.{Record}
 use Rattle.sed1520.specs.declared.registers.Chip.{Chip}
@@ -20,11 +24,11 @@ use Rattle.sed1520.proofs.CycleKeeps.{every-cycle-keeps}
 use Rattle.sed1520.proofs.CycleTouches.{every-cycle-touches}
 use Rattle.frame.specs.Frame.{segments, ram_column, segment_pixels}
 use Rattle.frame.specs.Laws.{SameShown}
-use Rattle.frame.specs.declared.segment.Segment.{Segment}
 use Rattle.frame.proofs.HalfLaws.{half-laws}
 use Rattle.frame.proofs.Lines.{no-segment}
 use Rattle.visible.specs.Changes.{half_changed}
-use Rattle.visible.specs.Sight.{bits_differing, same_shown_registers, half_sight, half_sight_of}
+use Rattle.visible.specs.Sight.{bits_differing, same_shown_registers, half_seen, half_sight, half_sight_of}
+use Rattle.visible.specs.declared.half.Seen.{Seen}
 use Rattle.visible.proofs.HalfCounts.{segment-counted, same_half, one-segment}
 
 -- only one segment shows the column at which a chip stands
@@ -87,23 +91,20 @@ module _ (r : Record) (c : Chip) (ram : List ℕ) (o : Outcome) (e : o ≡ cycle
             rw e (sym ((every-cycle-touches r c ram).columns-kept _ (ram_column c n) (half-laws.column c n driven) (other-column c n driven apart)));
       }
 
-  -- a chip that fits its RAM fits it after the record, and the chip as it was still fits it
+  -- a chip that fits its RAM fits it after the record
   left-bytes : length ram ≡ 320 → length o.ram ≡ 320
   left-bytes bytes = rw e (every-cycle-keeps r c ram).same_size ∙ bytes
-
-  pub still-fits : Fit c ram → Fit c o.ram
-  still-fits fit = record { range = fit.range; bytes = left-bytes fit.bytes }
 
   pub next_fits : Fit c ram → Fit next o.ram
   next_fits fit = record { range = rw e ((every-cycle-keeps r c ram).range fit.range); bytes = left-bytes fit.bytes }
 
   -- what a record comes to, its pixels counted
   pub seen : (n : ℕ) → n ≡ half_changed c ram next o.ram
-      → half_sight (record { number = o.answer.number; chip = next; pixels = n }) o.ram ≡ half_sight_of r c ram
+      → half_seen o.answer.number next n o.ram ≡ half_sight_of r c ram
   seen n counted = rw (counted, e)
 
-  pub write-sight : Fit c ram → (r.lines ≡ 2 → ⊥) → {n : ℕ} {one two : Segment} → n ≡ ram_column c c.column → one ≡ segment_pixels c ram n
-      → two ≡ segment_pixels next o.ram n → bits_differing one.pixels two.pixels ≡ half_changed c ram next o.ram
+  pub write-sight : Fit c ram → (r.lines ≡ 2 → ⊥) → {n one two : ℕ} → n ≡ ram_column c c.column → one ≡ (segment_pixels c ram n).pixels
+      → two ≡ (segment_pixels next o.ram n).pixels → bits_differing one two ≡ half_changed c ram next o.ram
   unfolding sum_below
   write-sight fit other {n} here is_one is-two =
       let others : (m : ℕ) → m < segments → (m ≡ n → ⊥) → SameShown c next ram o.ram m =
@@ -129,3 +130,11 @@ module _ (r : Record) (c : Chip) (ram : List ℕ) (o : Outcome) (e : o ≡ cycle
   -- the half drawn over the RAM as it is after the record
   pub command-sight : (r.lines ≡ 3 → ⊥) → {n : ℕ} → n ≡ half_changed c o.ram next o.ram → n ≡ half_changed c ram next o.ram
   command-sight other counted = counted ∙ ap (λ (l : List ℕ). half_changed c l next o.ram) (ram-kept other)
+
+-- a refused record, which changes nothing
+pub failed-seen : (r : Record) (c : Chip) (ram : List ℕ) {after : List ℕ} (given : Result Seen Refusal) (why : Refusal)
+    → IsErrAnd given (λ g. g ≡ why) → outcome (refusal (number_of why) c) after ≡ cycle_of r c ram → half_sight c given after ≡ half_sight_of r c ram
+failed-seen r c ram given why failed e =
+    let kept = e ∙ (every-cycle-keeps r c ram).refused (rw (← e) (refusal-number why)) in
+    rw (failed-with given failed)
+    (seen r c ram _ e 0 (rw (ap (λ (o : Outcome). o.ram) kept) (sym (same-shown-registers c c ram refl))))

@@ -1,13 +1,11 @@
 -- What a record comes to on the panel, out of what it comes to on the half of the chip that it names.
 use Prim.Native.Nat.{ℕ}
-use native.Mathlib.Omega.{arith}
 use mathlib.Core.Path.{◌≡◌, refl, sym, ap, ap₂, ◌∙◌}
 use mathlib.Core.Bool.{Bool, true, false, beq}
 use mathlib.Core.List.{List, ◌++◌}
 use mathlib.Core.Logic.{⊎_elim}
 use lib.Dec.{eqb}
-use lib.ListN.{length, take, drop, length-append, length-drop}
-use lib.Seq.{length-take-le}
+use lib.ListN.{length, take, drop}
 use borrow.Author.Tests.{eq-eqb, ne_eqb}
 use Rattle.basics.specs.Choice.{if}
 use Rattle.basics.specs.Halves.{part_put}
@@ -15,34 +13,18 @@ use Rattle.basics.proofs.Tests.{tested}
 use Rattle.sed1520.specs.Cycle.{Outcome}
 use Rattle.panel.specs.Panel.{Panel, as_panel, chip_at, ram_at, outcome_of, stepped}
 use Rattle.sed1520.specs.declared.bus.Record.{Record}
-use Rattle.sed1520.proofs.CycleKeeps.{every-cycle-keeps}
 use Rattle.panel.proofs.PanelLaws.{every-record-apart}
 use Rattle.visible.specs.Changes.{half_changed, pixels_changed}
-use Rattle.visible.specs.Sight.{HalfSight, half_sight, half_sight_of, Sight, sight, sight_of}
+use Rattle.visible.specs.Sight.{HalfSight, half_seen, half_sight_of, Sight, sight, sight_of}
 use Rattle.sed1520.specs.declared.registers.Chip.{Chip}
-use Rattle.visible.specs.declared.half.Seen.{Seen}
 use Rattle.visible.proofs.HalfSights.{alike, unlike, same-shown-registers}
 
 -- an outcome of a cycle as a half's sight
 abbrev as_seen : Chip → List ℕ → Outcome → HalfSight
-as_seen c ram o =
-    half_sight (record { number = o.answer.number; chip = o.answer.chip; pixels = half_changed c ram o.answer.chip o.ram }) o.ram
+as_seen c ram o = half_seen o.answer.number o.answer.chip (half_changed c ram o.answer.chip o.ram) o.ram
 
 sights : {n : ℕ} {p q : Panel} {a b c d : ℕ} → p ≡ q → a ≡ b → c ≡ d → sight n p a c ≡ sight n q b d
 sights e f g = rw (e, f, g)
-
--- a half is as long as it was, and so is the image that it is put back into
-pub left-length : (ram : List ℕ) → length ram ≡ 640 → (r : Record) (c : Chip) {s : Seen} {bytes : List ℕ}
-    → half_sight s bytes ≡ half_sight_of r c (take 320 ram) → length (bytes ++ drop 320 ram) ≡ length ram
-left-length ram image r c {bytes = bytes} e =
-    let own = ap (λ (h : HalfSight). length h.lent) e ∙ (every-cycle-keeps r c (take 320 ram)).same_size in
-    length-append bytes (drop 320 ram) ∙ omega (arith, own, length-take-le 320 ram (omega arith), length-drop 320 ram)
-
-pub right-length : (ram : List ℕ) → length ram ≡ 640 → (r : Record) (c : Chip) {s : Seen} {bytes : List ℕ}
-    → half_sight s bytes ≡ half_sight_of r c (drop 320 ram) → length (take 320 ram ++ bytes) ≡ length ram
-right-length ram image r c {bytes = bytes} e =
-    let own = ap (λ (h : HalfSight). length h.lent) e ∙ (every-cycle-keeps r c (drop 320 ram)).same_size in
-    length-append (take 320 ram) bytes ∙ omega (arith, own, length-take-le 320 ram (omega arith), length-drop 320 ram)
 
 module _ (p : Panel) (image : length p.ram ≡ 640) (r : Record) where
   abbrev k : ℕ
@@ -97,10 +79,11 @@ module _ (p : Panel) (image : length p.ram ≡ 640) (r : Record) where
       by_right false = refl
 
   -- a record to the left chip, and one to the right
-  pub left-sight : k ≡ 0 → {s : Seen} {bytes : List ℕ} → half_sight s bytes ≡ half_sight_of r p.left (take 320 p.ram)
-      → sight s.number (as_panel s.chip p.right (bytes ++ drop 320 p.ram)) s.pixels 0 ≡ sight_of p r
-  left-sight here {s} {bytes} e = let t = eq-eqb k 0 here in rw t at (panel-sight (half_sight s bytes) (rw t e))
+  pub left-sight : k ≡ 0 → {n : ℕ} {c : Chip} {pixels : ℕ} {bytes : List ℕ} → half_seen n c pixels bytes ≡ half_sight_of r p.left (take 320 p.ram)
+      → sight n (as_panel c p.right (bytes ++ drop 320 p.ram)) pixels 0 ≡ sight_of p r
+  left-sight here {n} {c} {pixels} {bytes} e = let t = eq-eqb k 0 here in rw t at (panel-sight (half_seen n c pixels bytes) (rw t e))
 
-  pub right-sight : (k ≡ 0 → ⊥) → {s : Seen} {bytes : List ℕ} → half_sight s bytes ≡ half_sight_of r p.right (drop 320 p.ram)
-      → sight s.number (as_panel p.left s.chip (take 320 p.ram ++ bytes)) 0 s.pixels ≡ sight_of p r
-  right-sight there {s} {bytes} e = let t = ne_eqb k 0 there in rw t at (panel-sight (half_sight s bytes) (rw t e))
+  pub right-sight : (k ≡ 0 → ⊥) → {n : ℕ} {c : Chip} {pixels : ℕ} {bytes : List ℕ}
+      → half_seen n c pixels bytes ≡ half_sight_of r p.right (drop 320 p.ram)
+      → sight n (as_panel p.left c (take 320 p.ram ++ bytes)) 0 pixels ≡ sight_of p r
+  right-sight there {n} {c} {pixels} {bytes} e = let t = ne_eqb k 0 there in rw t at (panel-sight (half_seen n c pixels bytes) (rw t e))

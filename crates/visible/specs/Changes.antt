@@ -6,8 +6,8 @@ use Rattle.basics.specs.Choice.{if}
 use Rattle.basics.specs.Counts.{sum_below, count_below}
 use Rattle.basics.specs.Lists.{joined}
 use Rattle.basics.specs.Table.{Cause, cause, unless_refused}
-use Rattle.basics.specs.Verdict.{verdict, Result, result_of}
-use Rattle.basics.specs.declared.verdict.Verdict.{Verdict}
+use Rattle.basics.specs.Verdict.{verdict, CallResult, result_of}
+use Rattle.basics.specs.Verdict.{Verdict}
 use Rattle.sed1520.specs.Chip.{out_of_range}
 use Rattle.sed1520.specs.Records.{whole_records}
 use Rattle.sed1520.specs.declared.bus.Record.{Record}
@@ -80,7 +80,7 @@ changes_table p trace room =
 
 -- the list of changes: its numbers, which leave the buffer as it came; else 0, with how many entries there are as place, and their bytes at the
 -- front of the buffer, the rest as it was
-unfoldable pub changes_of : Panel → List ℕ → List ℕ → Result Verdict (List ℕ)
+unfoldable pub changes_of : Panel → List ℕ → List ℕ → CallResult Verdict (List ℕ)
 changes_of p trace buffer =
     let entries = all_entries p (whole_records trace) in
     unless_refused (changes_table p trace (length buffer)) (λ n at. result_of (verdict n at) buffer)

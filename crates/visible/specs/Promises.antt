@@ -55,7 +55,8 @@ ReadsAndRefusalsUnseen = (p : Panel) → length p.ram ≡ image_length → (r : 
 abbrev pub ChangesNumbers : Type 0
 ChangesNumbers =
     (p : Panel) (trace buffer : List ℕ)
-    → ExactlyWhen (changes_table p trace (length buffer)) (verdict 0 (length (all_entries p (whole_records trace)))) (changes_of p trace buffer).answer
+    → ExactlyWhen (changes_table p trace (length buffer)) (verdict 0 (length (all_entries p (whole_records trace))))
+    (changes_of p trace buffer).answer
 
 -- the list of changes leaves the entries' buffer as it came wherever its number is not 0
 abbrev pub EveryRefusalKeeps : Type 0

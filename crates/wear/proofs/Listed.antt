@@ -51,8 +51,8 @@ pub listed : (trace : List ℕ) {ram' answers' wear' out mid end : List ℕ} {at
     → left ≡ fresh → right ≡ fresh
     → with_wear (replay_outcome done ram' answers') wear'
     ≡ replay_with_wear (as_panel left right (replicate image_length 0)) trace blank_answers (replicate image_length 0)
-    → Put out mid 0 at (wear_lines done.number wear')
-    → Put mid end at next (end_line done.number done.place done.compared done.differing)
+    → Put out mid 0 at (wear_lines done.tally.number wear')
+    → Put mid end at next (end_line done.tally.number done.tally.place done.tally.compared done.tally.differing)
     → Put out end 0 next (program_text trace)
 unfolding program_text wear_text
 listed trace is-left is_right ends lines last =

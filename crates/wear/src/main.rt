@@ -10,10 +10,10 @@ ghost use Rattle.console.specs.Text.{Put};
 ghost use Rattle.wear.specs.Text.{program_text};
 
 use crate::text::put_wear;
-use console::input::{Input, read_input};
+use console::input::read_input;
 use console::text::put_end;
 use console::{ANSWERS_BYTES, INPUT_BYTES};
-use panel::chips::IMAGE_BYTES;
+use panel::chips::{Chips, IMAGE_BYTES};
 use sed1520::registers::Chip;
 use std::io::Print;
 
@@ -36,14 +36,11 @@ fn listing(trace: &[u8], out: &mut [u8]) -> usize
     let mut ram = [0; IMAGE_BYTES];
     let mut answers = [0; ANSWERS_BYTES];
     let mut wear = [0; IMAGE_BYTES];
-    let done = trace::replay(
-        Chip::fresh(),
-        Chip::fresh(),
-        &mut ram,
-        trace,
-        &mut answers,
-        &mut wear,
-    );
+    let chips = Chips {
+        left: Chip::fresh(),
+        right: Chip::fresh(),
+    };
+    let done = trace::replay(chips, &mut ram, trace, &mut answers, &mut wear).tally;
     let lines = put_wear(out, &wear, done.number);
     put_end(
         out,
@@ -59,7 +56,7 @@ fn listing(trace: &[u8], out: &mut [u8]) -> usize
 // prints no whole end line.
 fn main(rt: HostRuntime) {
     let mut trace = [0; INPUT_BYTES];
-    let Input::Read(count) = read_input(&mut rt.stdin(), &mut trace) else {
+    let Ok(count) = read_input(&mut rt.stdin(), &mut trace) else {
         return;
     };
     let mut out = text_buffer();

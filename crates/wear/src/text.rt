@@ -22,10 +22,8 @@ fn put_counts(out: &mut [u8], at: usize, wear: &[u32], chip: u8, page: u8) -> us
     ensures { Put out.old out.new at result (page_counts wear.now chip page) }
 {
     let mut next = at;
-    let mut column = 0;
-    while column < Chip::COLUMN_STOP {
+    for column in 0..Chip::COLUMN_STOP {
         next = put_next(out, next, count_at(wear, chip, page, column) as u64);
-        column = column + 1;
     }
     next
 }
@@ -46,10 +44,8 @@ fn put_chip(out: &mut [u8], at: usize, wear: &[u32], chip: u8) -> usize
     ensures { Put out.old out.new at result (chip_lines wear.now chip) }
 {
     let mut next = at;
-    let mut page = 0;
-    while page < 4 {
+    for page in 0..4 {
         next = put_page(out, next, wear, chip, page);
-        page = page + 1;
     }
     next
 }
@@ -59,13 +55,7 @@ fn sum_of(wear: &[u32]) -> u64
     requires { length wear.now ≡ image_length }
     ensures { result ≡ total wear.now }
 {
-    let mut sum: u64 = 0;
-    let mut index = 0;
-    while index < wear.len() {
-        sum = sum + (wear[index] as u64);
-        index = index + 1;
-    }
-    sum
+    wear.iter().map(|&count| u64::from(count)).sum()
 }
 
 // The line of the sum.

@@ -8,15 +8,11 @@ use Rattle.frame.proofs.fill.Goals as goal
 
 pub loop-r-init : goal.loop-r-init
 unfolding joined
-loop-r-init c = (omega arith, begun-none _)
+loop-r-init c = begun-none _
 
 pub loop-r-preserved : goal.loop-r-preserved
-loop-r-preserved c =
-    (omega arith, band-begun _ _ c.loop-r.invariant.1 (omega arith) c.fill_half.ensures c.fill_half-in-loop-r.ensures)
+loop-r-preserved c = band-begun _ _ c.loop-r.invariant (omega arith) c.fill_half.ensures c.fill_half-in-loop-r.ensures
 
 pub returns : goal.returns
 unfolding frame_of
-returns c =
-    let at = c.loop-r in
-    let all : at.r ≡ 4 = omega arith in
-    rw all at (begun_all at.invariant.1 (omega arith))
+returns c = let all : c.loop-r.r ≡ 4 = omega arith in rw all at (begun_all c.loop-r.invariant (omega arith))

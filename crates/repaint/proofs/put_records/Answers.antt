@@ -11,10 +11,10 @@ pub returns : goal.returns
 returns c =
     let at = c.args in
     let picture = at.picture.now in
-    let one = begun_first at.output.now (page_bytes picture at.left 0 0) (page-bytes at.left 0 picture 0) c.put_page.ensures in
-    let two = begun-rest one (page_bytes picture at.left 0 1) (page-bytes at.left 0 picture 1) c.put_page-2.ensures in
-    let three = begun-rest two (page_bytes picture at.right 1 0) (page-bytes at.right 1 picture 0) c.put_page-3.ensures in
-    let four = begun-rest three (page_bytes picture at.right 1 1) (page-bytes at.right 1 picture 1) c.put_page-4.ensures in
-    let five = begun-rest four (record_bytes (turn at.left 0)) refl c.put_turn.ensures in
-    let six = begun-rest five (record_bytes (turn at.right 1)) refl c.put_turn-2.ensures in
-    six.bytes ∙ rw (in_order at.left at.right picture)
+    let one = begun_first at.output.now (page_bytes picture at.chips.left 0 0) (page-bytes at.chips.left 0 picture 0) c.put_page.ensures in
+    let two = begun-rest one (page_bytes picture at.chips.left 0 1) (page-bytes at.chips.left 0 picture 1) c.put_page-2.ensures in
+    let three = begun-rest two (page_bytes picture at.chips.right 1 0) (page-bytes at.chips.right 1 picture 0) c.put_page-3.ensures in
+    let four = begun-rest three (page_bytes picture at.chips.right 1 1) (page-bytes at.chips.right 1 picture 1) c.put_page-4.ensures in
+    let five = begun-rest four (record_bytes (turn at.chips.left 0)) refl c.put_turn.ensures in
+    let six = begun-rest five (record_bytes (turn at.chips.right 1)) refl c.put_turn-2.ensures in
+    six.bytes ∙ rw (in_order at.chips.left at.chips.right picture)

@@ -1,21 +1,17 @@
 -- `replay::listing`: the lines of the answers given, then the end line, all of which the buffer has room for.
 use Rattle.std.proofs.Common.{arith}
 use Rattle.console.proofs.Puts.{put_whole}
-use Rattle.replay.proofs.Listed.{FromFresh, from-fresh, given-fits, listed, text-bound}
+use Rattle.replay.proofs.Listed.{from-fresh, given-fits, listed, text-bound}
 use Rattle.replay.proofs.listing.Goals as goal
 
 pub put_lines-lines-requires : goal.put_lines-lines-requires
 put_lines-lines-requires c =
-    let ran : FromFresh c.args.trace.now c.replay_in_place-done.new.answers c.replay_in_place-done.result =
-    from-fresh c.fresh.ensures c.fresh-2.ensures c.chips_bytes-chips.ensures c.replay_in_place-done.ensures
-    in
+    let ran = from-fresh c.args.trace.now c.fresh.ensures c.fresh-2.ensures c.chips_bytes-chips.ensures c.replay_in_place-done.ensures in
     omega (arith, given-fits ran, c.given_in.ensures, c.replay_in_place-done.auto.answers)
 
 pub returns : goal.returns
 returns c =
-    let ran : FromFresh c.args.trace.now c.replay_in_place-done.new.answers c.replay_in_place-done.result =
-    from-fresh c.fresh.ensures c.fresh-2.ensures c.chips_bytes-chips.ensures c.replay_in_place-done.ensures
-    in
+    let ran = from-fresh c.args.trace.now c.fresh.ensures c.fresh-2.ensures c.chips_bytes-chips.ensures c.replay_in_place-done.ensures in
     let text = listed ran c.given_in.ensures c.put_lines-lines.ensures c.put_end.ensures in
     record {
       put = text;

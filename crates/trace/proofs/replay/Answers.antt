@@ -10,15 +10,15 @@ use Rattle.trace.proofs.replay.Goals as goal
 
 pub returns-then-wear-ne-IMAGE_BYTES : goal.returns-then-wear-ne-IMAGE_BYTES
 returns-then-wear-ne-IMAGE_BYTES c =
-    sym (wear-refused _ _ _ _ (λ size. omega arith))
+    rw (c.refused-tally.ensures, c.new.ensures) (sym (wear-refused _ _ _ _ (λ size. omega arith)))
 
 pub returns : goal.returns
 returns c =
     let at = c.args in
-    let theirs = c.chips_bytes-chips.ensures in
+    let theirs = c.chips_bytes-bytes.ensures in
     let given = c.replay_counting-tally.ensures in
-    both_left (rw c.chips_in-both.ensures (by_value _ _ _ _ _ _ _ theirs given.ran))
+    both_left (rw c.chips_in-chips.ensures (by_value _ _ _ _ _ _ _ theirs given.ran))
     (given.wear
     ∙ ap (λ (chips : List ℕ). replay_wear chips at.ram.now at.trace.now at.answers.now at.wear.now) theirs
-    ∙ wear-over-bytes at.left at.right _ _ _ _ (omega arith))
+    ∙ wear-over-bytes at.chips.left at.chips.right _ _ _ _ (omega arith))
     ∙ sym (with-wear _ _ _ _ (omega arith))

@@ -1,6 +1,6 @@
 -- `trace::run` meets its contract: before each run of records, the records so far have run, their counts stand and their answers are written.
 use native.Mathlib.Omega.{arith}
-use Rattle.trace.proofs.RunOn.{none-run, so-few, so-low, finished, went-few, some-ran, goes_on, stopped}
+use Rattle.trace.proofs.RunOn.{none-run, so-low, finished, few-on, some-ran, goes_on, stopped}
 use Rattle.trace.proofs.run.Goals as goal
 
 pub loop-at-init : goal.loop-at-init
@@ -14,27 +14,23 @@ run_counting-went-requires-clause-at_most c =
 pub overflow_add-compared : goal.overflow_add-compared
 overflow_add-compared c =
     let given = c.requires in
-    let held = c.loop-at.invariant in
     let e = c.run_counting-went.ensures in
-    let few = went-few given.both_pass given.trace_in_bounds held c.loop-at-test.true (e.ran, e.wear) in
-    let before = so-few given.both_pass given.trace_in_bounds held in
-    record { fits = omega (arith, few.compared-few, before.compared-few, given.trace_len_bound, c.loop-at-test.true) }
+    let few = few-on given.both_pass given.trace_in_bounds c.loop-at.invariant c.loop-at-test.true (e.ran, e.wear) in
+    record { fits = omega (arith, few.compared-few, given.trace_len_bound) }
 
 pub overflow_add-differing : goal.overflow_add-differing
 overflow_add-differing c =
     let given = c.requires in
-    let held = c.loop-at.invariant in
     let e = c.run_counting-went.ensures in
-    let few = went-few given.both_pass given.trace_in_bounds held c.loop-at-test.true (e.ran, e.wear) in
-    let before = so-few given.both_pass given.trace_in_bounds held in
-    record { fits = omega (arith, few.differing-few, before.differing-few, given.trace_len_bound, c.loop-at-test.true) }
+    let few = few-on given.both_pass given.trace_in_bounds c.loop-at.invariant c.loop-at-test.true (e.ran, e.wear) in
+    record { fits = omega (arith, few.differing-few, given.trace_len_bound) }
 
 pub overflow_add-at : goal.overflow_add-at
 overflow_add-at c =
     let given = c.requires in
     let e = c.run_counting-went.ensures in
-    let few = went-few given.both_pass given.trace_in_bounds c.loop-at.invariant c.loop-at-test.true (e.ran, e.wear) in
-    record { fits = omega (arith, few.place-few, given.trace_len_bound, c.loop-at-test.true) }
+    let few = few-on given.both_pass given.trace_in_bounds c.loop-at.invariant c.loop-at-test.true (e.ran, e.wear) in
+    record { fits = omega (arith, few.place-few, given.trace_len_bound) }
 
 pub returns-then-went-ne0 : goal.returns-then-went-ne0
 returns-then-went-ne0 c =
@@ -57,8 +53,7 @@ loop-at-preserved c =
     let e = c.run_counting-went.ensures in
     goes_on given.both_pass given.trace_in_bounds c.loop-at.invariant c.loop-at-test.true (e.ran, e.wear) (omega arith)
 
-pub returns-clause-ran : goal.returns-clause-ran
-returns-clause-ran c = (finished c.requires.both_pass c.requires.trace_in_bounds c.loop-at.invariant (omega arith)).0
-
-pub returns-clause-wear : goal.returns-clause-wear
-returns-clause-wear c = (finished c.requires.both_pass c.requires.trace_in_bounds c.loop-at.invariant (omega arith)).1
+pub returns : goal.returns
+returns c =
+    let whole = finished c.requires.both_pass c.requires.trace_in_bounds c.loop-at.invariant (omega arith) in
+    record { ran = whole.0; wear = whole.1 }

@@ -4,7 +4,9 @@ use Rattle.trace.proofs.RunOn.{RunOn}
 use Rattle.trace.proofs.run.Given as goal
 
 abbrev pub invariant-loop-at : goal.invariant-loop-at
-invariant-loop-at l = RunOn l.initial.chips l.initial.ram l.trace l.initial.answers l.initial.wear l.chips l.ram l.answers l.wear l.compared l.differing l.at
+invariant-loop-at l =
+    RunOn l.initial.chips l.initial.ram l.trace l.initial.answers l.initial.wear
+    l.chips l.ram l.answers l.wear l.compared l.differing l.at
 
 abbrev pub decreases-loop-at : goal.decreases-loop-at
 decreases-loop-at l = l.count - l.at

@@ -6,7 +6,7 @@ use Rattle.wear.proofs.listing.Goals as goal
 
 pub returns : goal.returns
 returns c =
-    let text = listed c.args.trace.now c.fresh.ensures c.fresh-2.ensures c.replay-done.ensures
+    let text = listed c.args.trace.now c.fresh.ensures c.fresh-2.ensures c.replay.ensures
     c.put_wear-lines.ensures c.put_end.ensures in
     record {
       put = text;

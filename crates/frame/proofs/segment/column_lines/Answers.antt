@@ -23,6 +23,6 @@ returns c =
     let byte : (page : ℕ) → byte_at c.args.ram.now page c.args.column < 256 =
     λ page. omega (arith, c.type_inv.ram (ram_index page c.args.column))
     in
-    c.four_bytes.ensures
+    c.word_of.ensures
     ∙ rw (c.index-fourth.ensures, c.index-third.ensures, c.index-second.ensures, c.index-first.ensures)
     (sym (four-pages c.args.ram.now c.args.column byte))

@@ -10,14 +10,14 @@ use Rattle.panel.proofs.chips.chips_bytes.Goals as goal
 
 pub returns : goal.returns
 returns c =
-    let first-written : c.chip_out.new.bytes ≡ chip_bytes c.args.left =
+    let first-written : c.chip_out.new.bytes ≡ chip_bytes c.args.chips.left =
     c.chip_out.ensures
     in
     let first-length : length c.chip_out.new.bytes ≡ 12 =
-    ap length (first-written) ∙ chip-bytes-length c.args.left
+    ap length (first-written) ∙ chip-bytes-length c.args.chips.left
     in
     let whole = first-length in
     let rest = take 12 (drop 12 (c.chip_out.new.bytes ++ replicate 12 0)) in
-    let second = written_out c.args.right rest c.chip_out-2.ensures
+    let second = written_out c.args.chips.right rest c.chip_out-2.ensures
     (simp (length-take, length-drop, length-append) (omega arith)) in
-    both-written 12 _ _ _ _ _ (chip-bytes-length c.args.left) refl (first-written) second
+    both-written 12 _ _ _ _ _ (chip-bytes-length c.args.chips.left) refl (first-written) second

@@ -21,8 +21,8 @@ returns-then-chips-ne-CHIPS_BYTES c =
     let at = c.args in none-moved at.trace.now _ at.chips.now
     in
     record {
-      ran = rw (c.unmoved.ensures, c.nothing_run.ensures) (sym (bytes-wrong chips_step 24 640 _ _ _ _ c.if-chips-ne-CHIPS_BYTES.true));
-      moved = rw c.unmoved.ensures (as-came);
+      ran = rw c.refused.ensures (sym (bytes-wrong chips_step 24 640 _ _ _ _ c.if-chips-ne-CHIPS_BYTES.true));
+      moved = rw c.refused.ensures as-came;
     }
 
 pub returns-then-ram-ne-IMAGE_BYTES : goal.returns-then-ram-ne-IMAGE_BYTES
@@ -32,8 +32,8 @@ returns-then-ram-ne-IMAGE_BYTES c =
     let at = c.args in none-moved at.trace.now _ at.chips.now
     in
     record {
-      ran = rw (c.unmoved-then-ram-ne-IMAGE_BYTES.ensures, c.nothing_run-then-ram-ne-IMAGE_BYTES.ensures) (sym (ram-wrong chips_step 24 640 _ _ _ _ c.if-ram-ne-IMAGE_BYTES.true));
-      moved = rw c.unmoved-then-ram-ne-IMAGE_BYTES.ensures (as-came);
+      ran = rw c.refused-then-ram-ne-IMAGE_BYTES.ensures (sym (ram-wrong chips_step 24 640 _ _ _ _ c.if-ram-ne-IMAGE_BYTES.true));
+      moved = rw c.refused-then-ram-ne-IMAGE_BYTES.ensures as-came;
     }
 
 pub returns-then-trace-lt-RECORD_BYTES : goal.returns-then-trace-lt-RECORD_BYTES
@@ -43,9 +43,9 @@ returns-then-trace-lt-RECORD_BYTES c =
     let at = c.args in none-moved at.trace.now _ at.chips.now
     in
     record {
-      ran = rw (c.unmoved-then-trace-lt-RECORD_BYTES.ensures, c.nothing_run-then-trace-lt-RECORD_BYTES.ensures)
+      ran = rw (c.unmoved.ensures, c.nothing_run.ensures)
           (sym (none_runs chips_step 24 640 _ _ _ _ (omega arith) (omega arith) (omega arith) (omega arith)));
-      moved = rw c.unmoved-then-trace-lt-RECORD_BYTES.ensures (as-came);
+      moved = rw c.unmoved.ensures as-came;
     }
 
 pub returns : goal.returns

@@ -14,7 +14,7 @@ use Rattle.repaint.proofs.chip_plan.put_writes.Goals as goal
 pub loop-j-init : goal.loop-j-init
 unfolding flat_map joined
 loop-j-init c =
-    (begun-none _, (omega arith, refl))
+    (begun-none _, refl)
 
 pub loop-j-preserved : goal.loop-j-preserved
 loop-j-preserved c =
@@ -24,7 +24,7 @@ loop-j-preserved c =
     let more =
     begun-write at.chip at.which at.picture.now at.band 0 c.loop-j.j c.loop-j.invariant.0
     (c.column_segment.ensures ∙ ap (column_segment at.chip) from_zero) c.picture_byte-byte.ensures c.put_record.ensures in
-    (rw next at more, (omega arith, search rules))
+    (rw next at more, search rules)
 
 pub returns : goal.returns
 returns c =

@@ -1,14 +1,11 @@
 -- `repaint::chip_plan::put_writes` meets its contract: the writes so far are at the front.
-use Prim.Native.Nat.{◌-◌, ◌*◌, ◌≤◌}
+use Prim.Native.Nat.{◌*◌}
 use mathlib.Core.Path.{◌≡◌}
 use lib.ListN.{length}
 use Rattle.basics.proofs.Filling.{Begun}
-use Rattle.frame.specs.Frame.{segments}
 use Rattle.repaint.proofs.Bytes.{written}
 use Rattle.repaint.proofs.chip_plan.put_writes.Given as goal
 
 abbrev pub invariant-loop-j : goal.invariant-loop-j
-invariant-loop-j l = Begun l.initial.output (written l.chip l.which l.picture l.band 0 l.j) (4 * l.j) l.output × ((l.j ≤ segments) × (length l.output ≡ length l.initial.output))
-
-abbrev pub decreases-loop-j : goal.decreases-loop-j
-decreases-loop-j l = segments - l.j
+invariant-loop-j l =
+    Begun l.initial.output (written l.chip l.which l.picture l.band 0 l.j) (4 * l.j) l.output × (length l.output ≡ length l.initial.output)

@@ -8,23 +8,14 @@ use Rattle.sed1520.specs.Records.{records_bytes}
 use Rattle.frame.specs.Frame.{segments}
 use Rattle.repaint.specs.Repaint.{page_set}
 use Rattle.repaint.specs.Sparing.{differs, chosen_columns, chosen_page}
-use Rattle.repaint.proofs.Bytes.{answer-of, begun-put, begun-front}
-use Rattle.repaint.proofs.ChosenColumns.{some-counted, at_most_one, cycles-few, columns-length}
+use Rattle.repaint.proofs.Bytes.{columns-bytes, begun-put, begun-front}
+use Rattle.repaint.proofs.ChosenColumns.{some-counted}
 use Rattle.repaint.proofs.NextColumn.{Next, next-is}
 use Rattle.repaint.proofs.sparing_page.put_changed_page.Goals as goal
 
 pub overflow_add-result : goal.overflow_add-result
 overflow_add-result c =
-    let at = c.args in
-    let test : ℕ → Bool = differs at.chip at.which at.ram.now at.picture.now at.band in
-    let many = answer-of c.put_columns.ensures in
-    omega (
-      arith,
-      many,
-      columns-length test at.chip at.which at.picture.now at.band segments,
-      cycles-few test segments,
-      at_most_one (test 60),
-    )
+    omega (arith, columns-bytes c.args.chip _ _ _ _ _ c.put_columns.ensures)
 
 pub returns : goal.returns
 unfolding chosen_page flat_map

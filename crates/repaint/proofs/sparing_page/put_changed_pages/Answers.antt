@@ -3,23 +3,21 @@ use Rattle.std.proofs.Common.{arith, ℕ, List, ◌++◌}
 use lib.ListN.{length-take, length-drop}
 use Rattle.sed1520.specs.declared.bus.Record.{Record}
 use Rattle.repaint.specs.Sparing.{differs, chosen_page}
-use Rattle.repaint.proofs.Bytes.{answer-of, front-begun, begun-put, begun-front, chosen-bytes}
+use Rattle.repaint.proofs.Bytes.{front-begun, begun-put, begun-front, chosen-bytes}
 use Rattle.repaint.proofs.sparing_page.put_changed_pages.Goals as goal
 
 pub slice_bounds-put_changed_page-count : goal.slice_bounds-put_changed_page-count
-slice_bounds-put_changed_page-count c = omega (arith, chosen-bytes _ _ _ _ _ (answer-of c.put_changed_page-first.ensures))
+slice_bounds-put_changed_page-count c = omega (arith, chosen-bytes _ _ _ _ _ _ c.put_changed_page-first.ensures)
 
 pub slice_bounds-put_changed_page-start : goal.slice_bounds-put_changed_page-start
-slice_bounds-put_changed_page-start c = omega (arith, chosen-bytes _ _ _ _ _ (answer-of c.put_changed_page-first.ensures))
+slice_bounds-put_changed_page-start c = omega (arith, chosen-bytes _ _ _ _ _ _ c.put_changed_page-first.ensures)
 
 pub put_changed_page-requires-clause-page_length_in_bounds : goal.put_changed_page-requires-clause-page_length_in_bounds
 put_changed_page-requires-clause-page_length_in_bounds c =
-    simp (length-take, length-drop)
-    (omega (arith, chosen-bytes _ _ _ _ _ (answer-of c.put_changed_page-first.ensures), c.requires.page_length_in_bounds))
+    simp (length-take, length-drop) (omega (arith, chosen-bytes _ _ _ _ _ _ c.put_changed_page-first.ensures))
 
 pub overflow_add-result : goal.overflow_add-result
-overflow_add-result c =
-    omega (arith, chosen-bytes _ _ _ _ _ (answer-of c.put_changed_page-first.ensures), chosen-bytes _ _ _ _ _ (answer-of c.put_changed_page.ensures))
+overflow_add-result c = omega (arith, chosen-bytes _ _ _ _ _ _ c.put_changed_page-first.ensures, chosen-bytes _ _ _ _ _ _ c.put_changed_page.ensures)
 
 pub returns : goal.returns
 returns c =

@@ -1,11 +1,12 @@
 -- `sed1520::bytes_command::execute` meets its contract: each arm stores the bytes of the registers that its opcode sets.
 use Rattle.sed1520.specs.ChipBytes.{chip_bytes, registers_in}
 use Rattle.sed1520.specs.Cycle.{execute}
+use Rattle.sed1520.proofs.Flags.{from-flag}
 use Rattle.sed1520.proofs.bytes_command.execute.Goals as goal
 
 pub returns-in-Display : goal.returns-in-Display
 unfolding chip_bytes execute registers_in
-returns-in-Display c = rw (c.bit.ensures, c.in-Display.is)
+returns-in-Display c = rw (c.from.ensures, from-flag, c.in-Display.is)
 
 pub returns-in-StartLine : goal.returns-in-StartLine
 unfolding chip_bytes execute registers_in
@@ -21,15 +22,15 @@ returns-in-Column c = rw c.in-Column.is
 
 pub returns-in-Adc : goal.returns-in-Adc
 unfolding chip_bytes execute registers_in
-returns-in-Adc c = rw (c.bit-in-Adc.ensures, c.in-Adc.is)
+returns-in-Adc c = rw (c.from-in-Adc.ensures, from-flag, c.in-Adc.is)
 
 pub returns-in-Static : goal.returns-in-Static
 unfolding chip_bytes execute registers_in
-returns-in-Static c = rw (c.bit-in-Static.ensures, c.in-Static.is)
+returns-in-Static c = rw (c.from-in-Static.ensures, from-flag, c.in-Static.is)
 
 pub returns-in-Duty : goal.returns-in-Duty
 unfolding chip_bytes execute registers_in
-returns-in-Duty c = rw (c.bit-in-Duty.ensures, c.in-Duty.is)
+returns-in-Duty c = rw (c.from-in-Duty.ensures, from-flag, c.in-Duty.is)
 
 pub returns-in-Modify : goal.returns-in-Modify
 unfolding chip_bytes execute registers_in

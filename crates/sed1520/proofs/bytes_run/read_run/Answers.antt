@@ -10,6 +10,7 @@ use Rattle.sed1520.specs.ChipBytes.{flag}
 use Rattle.sed1520.specs.Replies.{is_compared}
 use Rattle.sed1520.proofs.Counts.{at_most_one, no_more, differs-where}
 use Rattle.sed1520.proofs.DataSteps.{as_read, fresh-kind, fresh-compared, read_below, read_past}
+use Rattle.sed1520.proofs.Flags.{from-flag}
 use Rattle.sed1520.proofs.RunUpto.{started, within, buffered, fewer, less, carried_on, ends}
 use Rattle.sed1520.proofs.bytes_run.read_run.Goals as goal
 use Rattle.sed1520.proofs.bytes_run.read_run.Goals.{then-column-ge-COLUMN_STOP, else-column-ge-COLUMN_STOP}
@@ -24,8 +25,8 @@ overflow_add-compared c =
     let there : let at = c.args in c.reads.n < length at.trace.now / 4 =
     within c.reads.invariant (sym c.carried.ensures ∙ c.reads-test.true)
     in
-    let few-bit : c.bit-fresh.result ≤ 1 =
-    omega (arith, c.bit-fresh.ensures, at_most_one (flag c.reads.mark))
+    let few-bit : c.from-fresh.result ≤ 1 =
+    omega (arith, c.from-fresh.ensures, from-flag (flag c.reads.mark), at_most_one (flag c.reads.mark))
     in
     omega (arith, few-bit, there, fewer c.reads.invariant)
 
@@ -34,12 +35,12 @@ overflow_add-differing c =
     let there : let at = c.args in c.reads.n < length at.trace.now / 4 =
     within c.reads.invariant (sym c.carried.ensures ∙ c.reads-test.true)
     in
-    let few-bit : c.bit-fresh.result ≤ 1 =
-    omega (arith, c.bit-fresh.ensures, at_most_one (flag c.reads.mark))
+    let few-bit : c.from-fresh.result ≤ 1 =
+    omega (arith, c.from-fresh.ensures, from-flag (flag c.reads.mark), at_most_one (flag c.reads.mark))
     in
     let few-differs : c.differs-differing.result ≤ 1 =
     let recorded = get_or c.args.trace.now (4 * c.reads.n + 2) 0 in
-    omega (arith, few-bit, c.differs-differing.ensures, no_more (eqb c.reads.latch recorded) c.bit-fresh.result)
+    omega (arith, few-bit, c.differs-differing.ensures, no_more (eqb c.reads.latch recorded) c.from-fresh.result)
     in
     omega (arith, few-differs, there, less c.reads.invariant)
 
@@ -56,7 +57,7 @@ reads-preserved c =
     let room = c.requires.trace_in_bounds in
     let goes = sym c.carried.ensures ∙ c.reads-test.true in
     let fresh = flag c.reads.mark in
-    let is = c.bit-fresh.ensures in
+    let is = c.from-fresh.ensures ∙ from-flag fresh in
     let one = fresh-compared fresh in
     let other = (rw (is, one) at c.differs-differing.ensures) ∙ differs-where (is_compared (if fresh 1 2)) (eqb c.reads.latch recorded) in
     elim c.if-column-ge-COLUMN_STOP.branch [

@@ -1,22 +1,22 @@
 -- `sed1520::chip_bytes::chip_in` meets its contract, by the length and by its flags.
+use native.Mathlib.Omega.{arith}
 use mathlib.Core.Path.{sym, ◌∙◌}
-use borrow.Author.Tests.{eq-eqb, ne_eqb, not-true, not-false}
+use borrow.Author.Tests.{eq-eqb, ne_eqb}
 use Rattle.sed1520.specs.ChipBytes.{chip_in}
 use Rattle.sed1520.proofs.chip_bytes.chip_in.Goals as goal
+use Rattle.sed1520.proofs.chip_bytes.chip_in.Goals.{else-bytes-eq-CHIP_BYTES-via-then-bytes-eq-CHIP_BYTES+else-flags_right}
+use Rattle.sed1520.proofs.chip_bytes.chip_in.Goals.{else-bytes-eq-CHIP_BYTES-via-else-bytes-eq-CHIP_BYTES}
 
-pub returns-then-bytes-ne-CHIP_BYTES : goal.returns-then-bytes-ne-CHIP_BYTES
+pub returns-then-flags_right : goal.returns-then-flags_right
 unfolding chip_in
-returns-then-bytes-ne-CHIP_BYTES c =
-    rw (ne_eqb _ 12 c.if-bytes-ne-CHIP_BYTES.true, c.no_chip.ensures)
+returns-then-flags_right c =
+    rw (eq-eqb _ 12 c.if-bytes-eq-CHIP_BYTES.true, sym c.flags_right.ensures ∙ c.if-flags_right.true, c.registers_in.ensures)
 
-pub returns-then-not-flags_right : goal.returns-then-not-flags_right
+pub returns-else-bytes-eq-CHIP_BYTES : goal.returns-else-bytes-eq-CHIP_BYTES
 unfolding chip_in
-returns-then-not-flags_right c =
-    let wrong = sym c.flags_right.ensures ∙ not-true _ c.if-not-flags_right.true-raw in
-    rw (eq-eqb _ 12 c.if-bytes-ne-CHIP_BYTES.false, wrong, c.no_chip-then-not-flags_right.ensures)
-
-pub returns : goal.returns
-unfolding chip_in
-returns c =
-    let right = sym c.flags_right.ensures ∙ not-false _ c.if-not-flags_right.false-raw in
-    rw (eq-eqb _ 12 c.if-bytes-ne-CHIP_BYTES.false, right, c.registers_in.ensures)
+returns-else-bytes-eq-CHIP_BYTES c =
+    elim c.else-bytes-eq-CHIP_BYTES.branch [
+      | else-bytes-eq-CHIP_BYTES-via-then-bytes-eq-CHIP_BYTES+else-flags_right w ↦
+          rw (eq-eqb _ 12 w.if-bytes-eq-CHIP_BYTES.true, sym w.flags_right.ensures ∙ w.if-flags_right.false, c.no_chip.ensures)
+      | else-bytes-eq-CHIP_BYTES-via-else-bytes-eq-CHIP_BYTES w ↦ rw (ne_eqb _ 12 w.if-bytes-eq-CHIP_BYTES.false, c.no_chip.ensures)
+    ]

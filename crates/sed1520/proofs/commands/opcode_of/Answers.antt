@@ -3,7 +3,7 @@ use Prim.Native.Nat.{ℕ, ◌≤◌, ◌<◌}
 use native.Mathlib.Omega.{arith}
 use mathlib.Core.Path.{◌≡◌, refl, sym}
 use mathlib.Core.Logic.{⊎_elim}
-use mathlib.Core.Option.{none}
+use Rattle.std.specs.Prelude.{None}
 use lib.Dec.{ltb}
 use borrow.Author.Tests.{ltb-true, ltb-false}
 use Rattle.sed1520.specs.Command.{opcodes, among}
@@ -12,7 +12,7 @@ use Rattle.sed1520.proofs.CommandBytes.{opcode-in-range, none_between}
 use Rattle.sed1520.proofs.commands.opcode_of.Goals as goal
 
 -- from 0xE0 up: the gaps between the three commands that have no argument
-above-start-lines : (b : ℕ) → 0xE0 ≤ b → b < 256 → (b ≡ 0xE0 → ⊥) → (b ≡ 0xEE → ⊥) → (b ≡ 0xE2 → ⊥) → among opcodes b ≡ none
+above-start-lines : (b : ℕ) → 0xE0 ≤ b → b < 256 → (b ≡ 0xE0 → ⊥) → (b ≡ 0xEE → ⊥) → (b ≡ 0xE2 → ⊥) → among opcodes b ≡ None
 above-start-lines b l h e0 ee e2 =
     ⊎_elim
     (λ low. let p = ltb-true b 0xE2 low in none_between opcodes 0xE1 0xE1 b (omega arith) (omega arith) refl)

@@ -5,8 +5,9 @@ use mathlib.Core.Path.{◌≡◌, refl, sym, ap, ◌∙◌}
 use mathlib.Core.Bool.{Bool, not}
 use mathlib.Core.List.{List}
 use lib.ListN.{length, take, drop}
-use Rattle.basics.specs.declared.verdict.Verdict.{Verdict}
+use Rattle.basics.specs.Verdict.{Verdict}
 use Rattle.basics.proofs.Parts.{rest}
+use Rattle.basics.proofs.Refusals.{refusal-number}
 use Rattle.sed1520.specs.ChipBytes.{bytes_pass}
 use Rattle.sed1520.specs.Replies.{InPlace}
 use Rattle.sed1520.specs.declared.tally.Tally.{Tally}
@@ -30,13 +31,13 @@ reported : {left right : Bool} {v : Verdict} (chips : List ℕ) (t : Progress) (
 reported chips t ram part answers size l r e = rw (left-passes chips size _ refl, right-passes chips size _ refl, ← l, ← rest chips 12, ← r) e
 
 -- refused, the line that says so
-pub returns-then-verdict-ne0 : goal.returns-then-verdict-ne0
-returns-then-verdict-ne0 c =
+pub returns-in-Err : goal.returns-in-Err
+returns-in-Err c =
     let at = c.args in
-    let told = reported at.chips.now at.progress _ _ _ c.requires c.bytes_pass-left_out.ensures c.bytes_pass-right_out.ensures c.part_verdict-verdict.ensures in
-    let line = part-line _ _ _ _ _ told c.if-verdict-ne0.true in
+    let told = reported at.chips.now at.progress _ _ _ c.requires c.bytes_pass-left_out.ensures c.bytes_pass-right_out.ensures c.in-Err.ensures in
+    let line = part-line _ _ _ _ _ told (refusal-number c.in-Err.refused.refusal) in
     record {
-      ran = rw c.reported_in_place.ensures (not_taken_lem _ _ _ _ _ c.requires _ _ line);
+      ran = rw (c.reported_in_place.ensures, c.number.ensures) (not_taken_lem _ _ _ _ _ c.requires _ _ line);
       wear = sym (open_kept _ _ _ _ _ _ _ line);
     }
 
@@ -44,8 +45,8 @@ returns-then-verdict-ne0 c =
 pub run_part-tally-requires : goal.run_part-tally-requires
 run_part-tally-requires c =
     let at = c.args in
-    let told = reported at.chips.now at.progress _ _ _ c.requires c.bytes_pass-left_out.ensures c.bytes_pass-right_out.ensures c.part_verdict-verdict.ensures in
-    let right = part_right _ _ _ _ (part-passed _ _ _ _ _ told (omega arith)) in
+    let told = reported at.chips.now at.progress _ _ _ c.requires c.bytes_pass-left_out.ensures c.bytes_pass-right_out.ensures c.in_default.ensures in
+    let right = part_right _ _ _ _ (part-passed _ _ _ _ _ told refl) in
     record {
       both_pass = both-pass _ _ c.requires right.state.left right.state.right right.sizes.image;
       kept_bound = right.state.few;
@@ -56,8 +57,8 @@ run_part-tally-requires c =
 pub moved_on-next-requires : goal.moved_on-next-requires
 moved_on-next-requires c =
     let at = c.args in
-    let told = reported at.chips.now at.progress _ _ _ c.requires c.bytes_pass-left_out.ensures c.bytes_pass-right_out.ensures c.part_verdict-verdict.ensures in
-    let right = part_right _ _ _ _ (part-passed _ _ _ _ _ told (omega arith)) in
+    let told = reported at.chips.now at.progress _ _ _ c.requires c.bytes_pass-left_out.ensures c.bytes_pass-right_out.ensures c.in_default.ensures in
+    let right = part_right _ _ _ _ (part-passed _ _ _ _ _ told refl) in
     let few = tally-few _ _ _ (ap (λ (i : InPlace Tally). i.answer) c.run_part-tally.ensures.ran) in
     let state = right.state in
     let bytes = joined_length at.progress state.few at.part.now in
@@ -72,8 +73,8 @@ moved_on-next-requires c =
 pub returns : goal.returns
 returns c =
     let at = c.args in
-    let told = reported at.chips.now at.progress _ _ _ c.requires c.bytes_pass-left_out.ensures c.bytes_pass-right_out.ensures c.part_verdict-verdict.ensures in
-    let none = part-passed _ _ _ _ _ told (omega arith) in
+    let told = reported at.chips.now at.progress _ _ _ c.requires c.bytes_pass-left_out.ensures c.bytes_pass-right_out.ensures c.in_default.ensures in
+    let none = part-passed _ _ _ _ _ told refl in
     record {
       ran = rw c.reported_in_place-2.ensures (part-run _ _ _ _ _ c.requires none _ c.run_part-tally.ensures.ran _ c.moved_on-next.ensures);
       wear = c.run_part-tally.ensures.wear ∙ sym (open-counted _ _ _ _ _ none);

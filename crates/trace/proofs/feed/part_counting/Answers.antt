@@ -10,7 +10,7 @@ pub returns-then-chips-ne-CHIPS_BYTES : goal.returns-then-chips-ne-CHIPS_BYTES
 returns-then-chips-ne-CHIPS_BYTES c =
     let wrong : length c.args.chips.now ≡ 24 → ⊥ = λ size. omega arith in
     record {
-      ran = rw c.reported_in_place-then-chips-ne-CHIPS_BYTES.ensures (sym (chips-wrong _ _ _ _ _ c.in-Open.is wrong));
+      ran = rw (c.reported_in_place-then-chips-ne-CHIPS_BYTES.ensures, c.number.ensures) (sym (chips-wrong _ _ _ _ _ c.in-Open.is wrong));
       wear = sym (chips-kept _ _ _ _ _ _ c.in-Open.is wrong);
     }
 

@@ -1,36 +1,31 @@
--- `trace::wear::count_stores` meets its contract: the places so far are counted.
-use Prim.Native.Nat.{ℕ, ◌<◌, ◌≤◌}
-use native.Mathlib.Omega.{arith}
-use mathlib.Core.Path.{◌≡◌}
-use mathlib.Core.Logic.{⊎_elim}
-use lib.Dec.{leb, ltb}
-use borrow.Author.Tests.{leb-true, ltb-true, ltb-false, lt-ltb, le-ltb}
+-- `trace::wear::count_stores` meets its contract: the counts of the part are one more each, the others as they were.
+use Rattle.std.proofs.Common.{◌≡◌, ℕ, ◌+◌, ◌-◌, min, List, drop, get_or, length, map, take, arith, rules, append-nil}
+use Rattle.std.proofs.lemmas.List.{places, drop_all, get_or-map, length-map, take_all}
+use Rattle.std.proofs.lemmas.List.Edits.{map_over_more}
+use Rattle.std.proofs.lemmas.Bool.Decides.{nat_tests}
+use borrow.Rule.Slice.PartMut.{put_mid}
+use Rattle.basics.specs.Choice.{if}
 use Rattle.basics.specs.Counts.{lies_in}
-use Rattle.basics.proofs.Tests.{tested}
-use Rattle.trace.proofs.WearCounts.{raise-all}
-use Rattle.trace.proofs.wear.count_stores.Invariants.{End}
+use Rattle.basics.proofs.Lists.{tabulated-is}
+use Rattle.trace.specs.Wear.{raised}
 use Rattle.trace.proofs.wear.count_stores.Goals as goal
 
--- past the last place, those counted are those asked for
-same-places : (size from to end at : ℕ) → End size to end → from ≤ at → (from < at → at ≤ end) → end ≤ at
-    → (i : ℕ) → i < size → lies_in from at i ≡ lies_in from to i
-same-places size from to end at ends on before past i h =
-    ⊎_elim
-    (λ t. let l = leb-true from i t in
-    ⊎_elim
-    (λ s. let below = ltb-true i at s in
-    let most = before (omega arith) in
-    rw (t, s, lt-ltb i to (omega (arith, ends.not-past, most))))
-    (λ s. let above = ltb-false i at s in
-    ⊎_elim
-    (λ u. let short = ltb-true end to u in absurd (omega (arith, ends.full short)))
-    (λ u. let full = ltb-false end to u in rw (t, s, le-ltb i to (omega arith)))
-    (tested (ltb end to)))
-    (tested (ltb i at)))
-    (λ t. rw t)
-    (tested (leb from i))
+raised-part : (wear part : List ℕ) (from to end at : ℕ) → end ≡ min to (length wear) → at ≡ min from end
+    → part ≡ map (λ n. n + 1) (take (end - at) (drop at wear)) → put_mid at (end - at) wear part ≡ raised wear from to
+unfolding raised
+raised-part wear part from to end at e a p =
+    rw p
+    (tabulated-is (λ i. get_or wear i 0 + if (lies_in from to i) 1 0) 0 (length wear) _ (grind (arith, places, length-map {A = ℕ} {B = ℕ}))
+    (λ i h. grind (
+      arith,
+      places,
+      nat_tests,
+      length-map {A = ℕ} {B = ℕ},
+      get_or-map (λ (n : ℕ). n + 1) (take (end - at) (drop at wear)) (i - at) 0 0,
+    )))
+
+pub loop-count-preserved : goal.loop-count-preserved
+loop-count-preserved c = map_over_more (λ n. n + 1) _ _ c.loop-count.count-index _ c.loop-count-test.true c.loop-count.invariant (search rules)
 
 pub returns : goal.returns
-returns c =
-    let held = c.loop-at.invariant in
-    raise-all held.raising _ (same-places _ _ _ _ _ held.ends held.raising.on held.before (omega arith))
+returns c = raised-part _ _ _ _ _ _ c.min-end.ensures c.min.ensures (grind (arith, take_all, drop_all, append-nil))

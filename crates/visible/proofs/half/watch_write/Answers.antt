@@ -1,13 +1,16 @@
 -- `visible::half::watch_write` meets its contract: the segment of the column, before the cycle and after it.
 use native.Mathlib.Omega.{arith}
 use mathlib.Core.Path.{◌∙◌}
-use Rattle.visible.proofs.HalfSights.{seen, write-sight}
+use Rattle.visible.proofs.HalfSights.{seen, failed-seen, write-sight}
 use Rattle.visible.proofs.half.watch_write.Goals as goal
+
+pub returns-in_err-next : goal.returns-in_err-next
+returns-in_err-next c = failed-seen _ _ _ _ _ c.from_residual.ensures.1 c.in_err-next.ensures
 
 pub returns : goal.returns
 returns c =
     let at = c.args in
-    seen at.bus at.chip at.ram.now _ c.cycle-answer.ensures _
+    seen at.bus at.chip at.ram.now _ c.in_ok-next.ensures _
     (c.differing.ensures
-    ∙ write-sight at.bus at.chip at.ram.now _ c.cycle-answer.ensures c.requires.fit (λ e. omega (arith, c.requires.lines_value))
-    c.segment_at-n.ensures c.segment_pixels-before.ensures c.segment_pixels-after.ensures)
+    ∙ write-sight at.bus at.chip at.ram.now _ c.in_ok-next.ensures c.requires.fit (λ e. omega (arith, c.requires.lines_value))
+    c.segment_at-n.ensures c.pixels_of-before.ensures c.pixels_of-after.ensures)

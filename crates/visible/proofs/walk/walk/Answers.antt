@@ -1,27 +1,47 @@
 -- `visible::walk::walk` meets its contract: before each record, the records so far have run and their entries are listed.
-use native.Mathlib.Omega.{arith}
-use mathlib.Core.Path.{◌≡◌}
-use Rattle.visible.proofs.Walking.{started, finished, left-few, right-few, refused-here, accepted-here}
+use Rattle.std.proofs.Common.{rules, ◌≡◌}
+use mathlib.Core.Path.{refl}
+use Rattle.basics.specs.Refusals.{refused}
+use Rattle.basics.proofs.Refusals.{failed-with}
+use Rattle.visible.proofs.Walking.{started, finished, left-few, right-few, refused-here, accepted-here, was-ok, was-err}
 use Rattle.visible.proofs.walk.walk.Goals as goal
 
 pub loop-at-init : goal.loop-at-init
-loop-at-init c = started _ _ _ _ _ c.requires.whole c.requires.trace_len_bound
+loop-at-init c = (search rules, search rules, started _ _ _ c.requires.whole c.requires.trace_len_bound (cc) (cc) (cc))
 
-pub returns-then-seen-ne0 : goal.returns-then-seen-ne0
-returns-then-seen-ne0 c = refused-here c.loop-at.invariant (omega arith) c.watch-seen.ensures c.if-seen-ne0.true
+pub returns-in_err-seen : goal.returns-in_err-seen
+returns-in_err-seen c =
+    let step = c.in-Some.ensures.steps in
+    let upto = rw (← step.1) at c.loop-at.invariant.2 in
+    let was = was-err c.watch.result _ _ c.in_err-seen.ensures.variant c.in_err-seen.ensures.cases in
+    let ends = refused-here upto _ _ step.0.1.0 step.0.1.1 c.from-bus.ensures (rw was.1.0 at c.watch.ensures) refl in
+    let ranked : c.in_err-seen.field-0.0 ≡ refused was.0 c.in-Some.at = let put = was.1.1 in search rules in
+    rw (failed-with _ c.from_residual.ensures.1, ranked) (record { walked = ends.0; image = ends.1 })
 
 pub list_entry-listed-requires-clause-left_lt_pair_limit : goal.list_entry-listed-requires-clause-left_lt_pair_limit
-list_entry-listed-requires-clause-left_lt_pair_limit c = left-few c.loop-at.invariant (omega arith) c.watch-seen.ensures
+list_entry-listed-requires-clause-left_lt_pair_limit c =
+    let step = c.in-Some.ensures.steps in
+    left-few c.loop-at.invariant.2 _ _ step.0.1.0 step.0.1.1 c.from-bus.ensures
+    (rw (was-ok c.watch.result c.in-Some.at c.in_ok-seen.ensures.cases) at c.watch.ensures)
 
 pub list_entry-listed-requires-clause-right_lt_pair_limit : goal.list_entry-listed-requires-clause-right_lt_pair_limit
-list_entry-listed-requires-clause-right_lt_pair_limit c = right-few c.loop-at.invariant (omega arith) c.watch-seen.ensures
-
--- a record past which the walk goes on was accepted
-accepted : (c : goal.After-now_right-1) → c.watch-seen.result.number ≡ 0
-accepted c = omega arith
+list_entry-listed-requires-clause-right_lt_pair_limit c =
+    let step = c.in-Some.ensures.steps in
+    right-few c.loop-at.invariant.2 _ _ step.0.1.0 step.0.1.1 c.from-bus.ensures
+    (rw (was-ok c.watch.result c.in-Some.at c.in_ok-seen.ensures.cases) at c.watch.ensures)
 
 pub loop-at-preserved : goal.loop-at-preserved
-loop-at-preserved c = accepted-here c.loop-at.invariant (omega arith) c.watch-seen.ensures (accepted c) c.list_entry-listed.ensures
+loop-at-preserved c =
+    let step = c.in-Some.ensures.steps in
+    let upto = rw (← step.1) at c.loop-at.invariant.2 in
+    let seen = rw (was-ok c.watch.result c.in-Some.at c.in_ok-seen.ensures.cases) at c.watch.ensures in (
+      search rules,
+      search rules,
+      rw (step.2, ← step.1, step.0.0)
+          (accepted-here upto _ _ step.0.1.0 step.0.1.1 c.from-bus.ensures seen refl c.list_entry-listed.ensures),
+    )
 
 pub returns : goal.returns
-returns c = finished c.loop-at.invariant (omega arith)
+returns c =
+    let ends = finished c.loop-at.invariant.2 c.in-None.ensures.steps.0.1.0 in
+    record { walked = ends.0; image = ends.1 }

@@ -1,11 +1,8 @@
 -- `visible::walk::walk_over` meets its contract: the walk over a copy.
 use Prim.Native.Nat.{ℕ}
-use mathlib.Core.Path.{◌≡◌, sym, ap, ◌∙◌}
+use mathlib.Core.Path.{◌≡◌, sym, ◌∙◌}
 use lib.ListN.{replicate, length-replicate}
-use Rattle.basics.specs.Verdict.{Result, result_of}
 use Rattle.basics.proofs.Bytes.{copied-whole}
-use Rattle.visible.specs.Sight.{WalkLent}
-use Rattle.visible.specs.declared.walk.Walked.{Walked}
 use Rattle.visible.proofs.walk.walk_over.Goals as goal
 
 pub returns : goal.returns
@@ -13,4 +10,4 @@ returns c =
     let copied : c.copy.new.to ≡ c.args.ram.now =
     c.copy.ensures ∙ copied-whole _ (replicate 640 0) (c.requires.whole.image ∙ sym (length-replicate {A = ℕ} 640 0))
     in
-    ap (λ (w : Result Walked WalkLent). result_of w.answer w.lent.entries) (rw copied at c.walk.ensures)
+    rw copied at c.walk.ensures.walked

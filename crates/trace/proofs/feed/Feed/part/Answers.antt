@@ -16,7 +16,8 @@ use Rattle.trace.proofs.feed.Feed.part.Goals as goal
 
 -- a feed that repeats or refuses takes no part
 not-given : (f : Feed) (ram answers : List ℕ) (e : Ending)
-    → part_outcome (unless_stopped e (fed_with f) (fed_with f 1 0)) ram answers ≡ unless_stopped e (not_taken f ram answers) (not_taken f ram answers 1 0)
+    → part_outcome (unless_stopped e (fed_with f) (fed_with f 1 0)) ram answers
+    ≡ unless_stopped e (not_taken f ram answers) (not_taken f ram answers 1 0)
 not-given f ram answers Open = refl
 not-given f ram answers (Stopped n at) = refl
 
@@ -30,14 +31,14 @@ pub returns : goal.returns
 returns c =
     let at = c.args in
     let f = at.self in
-    let theirs = c.chips_bytes-chips.ensures in
+    let theirs = c.chips_bytes-bytes.ensures in
     let went = c.part_counting-went in
     let t = went.result in
     both_left
     (ap (λ (both : Chips). part_outcome (as_fed t.tally (as_feed both.left both.right t.progress)) went.new.ram went.new.answers)
-    c.chips_in-both.ensures
+    c.chips_in-chips.ensures
     ∙ by_value _ _ _ _ _ _ _ theirs _ went.ensures.ran)
     (went.ensures.wear
     ∙ ap (λ (chips : List ℕ). part_wear chips f.progress at.ram.now at.part.now at.answers.now at.wear.now) theirs
-    ∙ part-wear-over-bytes f.left f.right f.progress _ _ _ _)
+    ∙ part-wear-over-bytes f.chips.left f.chips.right f.progress _ _ _ _)
     ∙ sym (part-with-wear f _ _ _ _ (omega arith))

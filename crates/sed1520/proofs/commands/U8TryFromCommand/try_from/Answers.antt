@@ -1,8 +1,8 @@
--- `sed1520::commands::encode`: an argument below the opcode's count makes a byte, since every range ends within a byte.
+-- The byte of a command: an argument below the opcode's count makes a byte, since every range ends within a byte.
 use Rattle.std.proofs.Common.{arith}
 use borrow.Author.Tests.{lt-ltb, le-ltb}
 use Rattle.sed1520.specs.Command.{count, encode_of}
-use Rattle.sed1520.proofs.commands.encode.Goals as goal
+use Rattle.sed1520.proofs.commands.U8TryFromCommand.try_from.Goals as goal
 
 pub returns-then-command-count : goal.returns-then-command-count
 unfolding encode_of
