@@ -107,15 +107,3 @@ lies-first from to i more =
     (λ s. let l = leb-false (from + 1) i s in let d = eqb-false i from t in rw (t, s, lt-leb from i (omega arith)) (omega arith))
     (tested (leb (from + 1) i)))
     (tested (eqb i from))
-
--- one more at the end
-pub lies-last : (from to i : ℕ) → from ≤ to → ◌≡◌ {A = ℕ} (if (lies_in from (to + 1) i) 1 0) (if (lies_in from to i) 1 0 + if (eqb i to) 1 0)
-lies-last from to i on =
-    ⊎_elim
-    (λ t. let e = eqb-true i to t in rw (t, le-leb from i (omega arith), lt-ltb i (to + 1) (omega arith), le-ltb i to (omega arith)) (omega arith))
-    (λ t. let d = eqb-false i to t in
-    ⊎_elim
-    (λ s. let l = leb-true to i s in rw (t, le-ltb i to (omega arith), le-ltb i (to + 1) (omega arith)) (omega arith))
-    (λ s. let l = leb-false to i s in rw (t, lt-ltb i to (omega arith), lt-ltb i (to + 1) (omega arith)) (omega arith))
-    (tested (leb to i)))
-    (tested (eqb i to))

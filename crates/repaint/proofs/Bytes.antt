@@ -10,18 +10,19 @@ use Rattle.basics.specs.Lists.{tabulated}
 use Rattle.basics.specs.Verdict.{CallResult, result_of}
 use Rattle.basics.proofs.Filling.{Begun, begun-rest}
 use Rattle.basics.proofs.Lists.{joined-more, tabulated-length}
-use Rattle.sed1520.specs.Laws.{sent}
 use Rattle.sed1520.specs.Records.{record_bytes, records_bytes}
 use Rattle.sed1520.specs.declared.registers.Chip.{Chip}
 use Rattle.sed1520.specs.declared.bus.Record.{Record}
 use Rattle.sed1520.proofs.Records.{bytes-append, bytes-length}
 use Rattle.frame.specs.Frame.{segments}
+use Rattle.repaint.specs.declared.chip_plan.HiddenPage.{HiddenPage}
+use Rattle.repaint.specs.declared.sparing_page.HeldPage.{HeldPage}
 use Rattle.repaint.specs.Sparing.{differs, passes_before, chosen_columns, chosen_page, chip_records, put_front, next_column}
 use Rattle.repaint.proofs.Counts.{chip-length, chip-few}
 use Rattle.repaint.proofs.RunByRun.{Begins, run-added}
 use Rattle.repaint.proofs.NextColumn.{next-is}
 use Rattle.repaint.proofs.ChosenColumns.{none-counted, at_most_one, cycles-few, columns-length, chosen-length, chosen-few}
-use Rattle.repaint.specs.Repaint.{column_segment, picture_byte, column_write, column_set, page_records, turn, repaint_records}
+use Rattle.repaint.specs.Repaint.{column_write, column_set, page_records, turn, repaint_records}
 
 -- what two results that are the same have in common
 pub answer-of : {one other : CallResult ℕ (List ℕ)} → one ≡ other → one.answer ≡ other.answer
@@ -55,64 +56,69 @@ pub begun-front : (rs : List Record) {old : List ℕ} {at : ℕ} {now : List ℕ
 begun-front rs begun = let many = sym begun.size ∙ bytes-length rs in rw (begun.bytes, many)
 
 -- one write more goes to the end
-module _ (c : Chip) (chip : ℕ) (picture : List ℕ) (r from : ℕ) where
+module _ (write : ℕ → Record) (from : ℕ) where
   abbrev pub written : ℕ → List ℕ
-  written n = records_bytes (tabulated (column_write c chip picture r) from n)
-
-  written-more : (n : ℕ) → written (n + 1) ≡ written n ++ record_bytes (column_write c chip picture r (from + n))
-  unfolding flat_map
-  written-more n = rw (add-one n, joined-more (λ i. column_write c chip picture r i ∷ []) from n, bytes-append)
+  written n = records_bytes (tabulated write from n)
 
   pub written-length : (n : ℕ) → length (written n) ≡ 4 * n
-  written-length n =
-      bytes-length (tabulated (column_write c chip picture r) from n) ∙ rw (tabulated-length (column_write c chip picture r) from n)
+  written-length n = bytes-length (tabulated write from n) ∙ rw (tabulated-length write from n)
 
   -- the writes so far, and the next one in a part lent from there on
-  pub begun-write : (n : ℕ) {at : ℕ} {old out : List ℕ} → Begun old (written n) at out
-      → {segment byte : ℕ} {part : List ℕ} → segment ≡ column_segment c (from + n) → byte ≡ picture_byte picture chip segment r
-      → part ≡ record_bytes (sent 3 chip byte) ++ drop 4 (take (length out - at) (drop at out))
+  pub begun-write : (n : ℕ) {j at : ℕ} {old out : List ℕ} → j ≡ from + n → Begun old (written n) at out
+      → {part : List ℕ} → part ≡ record_bytes (write j) ++ drop 4 (take (length out - at) (drop at out))
       → Begun old (written (n + 1)) (at + 4) (take at out ++ (part ++ drop (length out - at) (drop at out)))
-  begun-write n begun is-segment is_byte_lem e =
-      let e' = rw (is_byte_lem, is-segment) at e in
-      rw (written-more n) (begun-rest begun (record_bytes (column_write c chip picture r (from + n))) refl e')
+  unfolding flat_map
+  begun-write n is begun e =
+      rw (add-one n, joined-more (λ i. write i ∷ []) from n)
+      (begun-record (tabulated write from n) (write (from + n)) begun (rw is at e))
 
--- the writes of the columns up to this one are at the front, and the run that they are of ends where a search from here on says
-pub record WritesTo (c : Chip) (chip : ℕ) (ram picture : List ℕ) (r from : ℕ) (old : List ℕ) (column bytes : ℕ) (now : List ℕ) : Type 0 where
-  pub begun : Begun old (written c chip picture r from (column - from)) bytes now
-  pub same_end :
-      let equal : ℕ → Bool = λ i. not (differs c chip ram picture r i) in
-      next_column equal column (segments - column) ≡ next_column equal from (segments - from)
-  pub same_size : length now ≡ length old
+-- the data write of a page to a column
+abbrev pub write_of : HiddenPage → ℕ → Record
+write_of page = column_write page.chip page.which page.picture.now page.band
 
--- the columns that pass a test, so far, and the run that begins there
-module _ (c : Chip) (chip : ℕ) (picture : List ℕ) (r : ℕ) (test : ℕ → Bool) (j : ℕ) (before : passes_before test j ≡ false) where
-  abbrev so_far : List Record
-  so_far = chosen_columns c chip picture r test 0 j
+module _ (held : HeldPage) where
+  -- whether a column differs, the record that sets it, and the records of the columns so far
+  abbrev pub changed : ℕ → Bool
+  changed = differs held.page.chip held.page.which held.ram.now held.page.picture.now held.page.band
 
-  -- four bytes for each column at most
-  pub columns-fit : {old : List ℕ} {at : ℕ} {now : List ℕ} → Begun old (records_bytes so_far) at now → at ≤ 4 * j
-  columns-fit begun =
-      let few = rw before at (cycles-few test j) in
-      omega (arith, begun.size, bytes-length so_far, columns-length test c chip picture r j, few)
+  abbrev pub set_of : ℕ → List Record
+  set_of j = column_set held.page.chip held.page.which j ∷ []
 
-  module _ (n : ℕ) (passes : (i : ℕ) → j ≤ i → i < j + n → test i ≡ true) (some : 0 < n) where
-    -- the column is set, and then its writes come
-    pub begun-run : {old : List ℕ} {at : ℕ} {now : List ℕ}
-        → Begun old (records_bytes (so_far ++ (column_set c chip j ∷ []))) at now
-        → {bytes : ℕ} {part : List ℕ}
-        → result_of bytes part ≡ put_front (tabulated (column_write c chip picture r) j n) (take (length now - at) (drop at now))
-        → Begun old (records_bytes (chosen_columns c chip picture r test 0 (j + n))) (at + bytes)
-        (take at now ++ (part ++ drop (length now - at) (drop at now)))
-    begun-run begun e =
-        let writes = tabulated (column_write c chip picture r) j n in
-        let all = run-added test c chip picture r j before n passes some ∙ sym (append_assoc so_far (column_set c chip j ∷ []) writes) in
-        rw all (begun-put (so_far ++ (column_set c chip j ∷ [])) writes begun e)
+  abbrev pub columns_to : ℕ → List Record
+  columns_to = chosen_columns held.page.chip held.page.which held.page.picture.now held.page.band changed 0
 
--- the records of the columns so far are at the front, and a run begins at the next one, if one is left
-pub record UpTo (c : Chip) (chip : ℕ) (ram picture : List ℕ) (r : ℕ) (old : List ℕ) (run at : ℕ) (now : List ℕ) : Type 0 where
-  pub begun : Begun old (records_bytes (chosen_columns c chip picture r (differs c chip ram picture r) 0 run)) at now
-  pub begins : Begins (differs c chip ram picture r) run
-  pub same_size : length now ≡ length old
+  -- the writes of the columns up to this one are at the front, and the run that they are of ends where a search from here on says
+  pub record WritesTo (from : ℕ) (old : List ℕ) (column bytes : ℕ) (now : List ℕ) : Type 0 where
+    pub begun : Begun old (written (write_of held.page) from (column - from)) bytes now
+    pub same_end :
+        let equal : ℕ → Bool = λ i. not (changed i) in
+        next_column equal column (segments - column) ≡ next_column equal from (segments - from)
+    pub same_size : length now ≡ length old
+
+  -- the records of the columns so far are at the front, and a run begins at the next one, if one is left
+  pub record UpTo (old : List ℕ) (run at : ℕ) (now : List ℕ) : Type 0 where
+    pub begun : Begun old (records_bytes (columns_to run)) at now
+    pub begins : Begins changed run
+    pub same_size : length now ≡ length old
+
+  -- the columns so far, and the run that begins there
+  module _ (j : ℕ) (before : passes_before changed j ≡ false) where
+    -- four bytes for each column at most
+    pub columns-fit : {old : List ℕ} {at : ℕ} {now : List ℕ} → Begun old (records_bytes (columns_to j)) at now → at ≤ 4 * j
+    columns-fit begun =
+        let few = rw before at (cycles-few changed j) in
+        let many = columns-length changed held.page.chip held.page.which held.page.picture.now held.page.band j in
+        omega (arith, begun.size, bytes-length (columns_to j), many, few)
+
+    module _ (n : ℕ) (passes : (i : ℕ) → j ≤ i → i < j + n → changed i ≡ true) (some : 0 < n) where
+      -- the column is set, and then its writes come
+      pub begun-run : {old : List ℕ} {at : ℕ} {now : List ℕ} → Begun old (records_bytes (columns_to j ++ set_of j)) at now
+          → {bytes : ℕ} {part : List ℕ} → result_of bytes part ≡ put_front (tabulated (write_of held.page) j n) (take (length now - at) (drop at now))
+          → Begun old (records_bytes (columns_to (j + n))) (at + bytes) (take at now ++ (part ++ drop (length now - at) (drop at now)))
+      begun-run begun e =
+          let writes = tabulated (write_of held.page) j n in
+          let added = run-added changed held.page.chip held.page.which held.page.picture.now held.page.band j before n passes some in
+          rw (added ∙ sym (append_assoc (columns_to j) (set_of j) writes)) (begun-put (columns_to j ++ set_of j) writes begun e)
 
 -- the columns of a page take 248 bytes at most, and the page 252
 pub columns-bytes : (c : Chip) (chip : ℕ) (picture : List ℕ) (r : ℕ) (test : ℕ → Bool) (buffer : List ℕ) {n : ℕ} {now : List ℕ}
@@ -137,16 +143,12 @@ pub chip-bytes : (c : Chip) (chip : ℕ) (ram picture buffer : List ℕ) {n : �
     → result_of n now ≡ put_front (chip_records c chip ram picture) buffer → n ≤ 504
 chip-bytes c chip ram picture buffer e = omega (arith, answer-of e, chip-length c chip ram picture, chip-few c chip ram picture)
 
--- the six parts in the order in which they are written
-abbrev pub page_bytes : List ℕ → Chip → ℕ → ℕ → List ℕ
-page_bytes picture c k r = records_bytes (page_records c k picture r)
+-- the parts in the order in which they are written: both pages of each chip, then both start lines
+abbrev pub pages_bytes : List ℕ → Chip → ℕ → List ℕ
+pages_bytes picture c k = records_bytes (page_records c k picture 0 ++ page_records c k picture 1)
 
 module _ (left right : Chip) (picture : List ℕ) where
-  abbrev page : Chip → ℕ → ℕ → List ℕ
-  page = page_bytes picture
-
-  pub in_order : ((((page left 0 0 ++ page left 0 1) ++ page right 1 0) ++ page right 1 1) ++ record_bytes (turn left 0))
-      ++ record_bytes (turn right 1)
+  pub in_order : ((pages_bytes picture left 0 ++ pages_bytes picture right 1) ++ record_bytes (turn left 0)) ++ record_bytes (turn right 1)
       ≡ records_bytes (repaint_records left right picture)
   unfolding repaint_records flat_map
   in_order = simp (bytes-append, append_assoc, append-nil)

@@ -3,7 +3,7 @@
 use Prim.Native.Nat.{ℕ, suc, ◌*◌, ◌≤◌}
 use native.Mathlib.Omega.{arith}
 use mathlib.Core.Path.{◌≡◌, ap, ◌∙◌}
-use mathlib.Core.List.{List}
+use mathlib.Core.List.{List, ◌++◌}
 use lib.ListN.{length, length-append}
 use Rattle.basics.proofs.Lists.{tabulated-length}
 use Rattle.sed1520.specs.Records.{records_bytes}
@@ -21,6 +21,9 @@ page-length c k picture r = ap (λ n. suc (suc n)) (tabulated-length (column_wri
 
 pub page-bytes : (c : Chip) (k : ℕ) (picture : List ℕ) (r : ℕ) → length (records_bytes (page_records c k picture r)) ≡ 252
 page-bytes c k picture r = bytes-length (page_records c k picture r) ∙ ap (λ n. 4 * n) (page-length c k picture r)
+
+pub pages-bytes : (c : Chip) (k : ℕ) (picture : List ℕ) → length (records_bytes (page_records c k picture 0 ++ page_records c k picture 1)) ≡ 504
+pages-bytes c k picture = simp (bytes-length, length-append, page-length)
 
 pub pages-length : (left right : Chip) (picture : List ℕ) → length (hidden_pages left right picture) ≡ 252
 pages-length left right picture = simp (length-append, page-length)

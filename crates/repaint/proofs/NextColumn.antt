@@ -1,13 +1,11 @@
 -- The next column that passes a test: it is this one or one further on, and what is known of it.
-use Prim.Native.Nat.{ℕ, zero, suc, max, ◌+◌, ◌-◌, ◌<◌, ◌≤◌}
+use Prim.Native.Nat.{ℕ, zero, suc, ◌+◌, ◌<◌, ◌≤◌}
 use native.Mathlib.Omega.{arith}
 use mathlib.Core.Path.{◌≡◌}
 use mathlib.Core.Bool.{Bool, true, false}
 use mathlib.Core.Logic.{⊎_elim}
-use lib.Dec.{eqb, ltb}
-use borrow.Author.Tests.{eqb-true, eqb-false, ltb-true, ltb-false}
-use Rattle.std.specs.Prelude.{Option, None, Some, MatchOption}
-use Rattle.std.specs.Option.{unwrap_or}
+use lib.Dec.{eqb}
+use borrow.Author.Tests.{eqb-true, eqb-false}
 use Rattle.basics.proofs.Tests.{tested}
 use Rattle.repaint.specs.Sparing.{next_column}
 
@@ -50,33 +48,3 @@ module _ (test : ℕ → Bool) where
 
   pub next-is : (j n : ℕ) {at : ℕ} → at ≡ next_column test j n → Next j n at
   next-is j n is = rw is (next-column n j)
-
-  no_later : {j n at other : ℕ} → Next j n at → Next j n other → at ≤ other
-  no_later {j} {n} {at} {other} here there =
-      ⊎_elim
-      (λ t.
-      let earlier = ltb-true other at t in
-      let to = here.to in
-      let before : test other ≡ false = here.before other there.from earlier in
-      let found : test other ≡ true = there.found (omega arith) in
-      absurd cc)
-      (λ t. ltb-false other at t)
-      (tested (ltb other at))
-
-  is-next : (j n : ℕ) {at : ℕ} → Next j n at → at ≡ next_column test j n
-  is-next j n here =
-      let there = next-column n j in
-      let one = no_later here there in
-      let other = no_later there here in
-      omega arith
-
-  -- a search from column j to before the end, and what is taken where it finds none
-  pub next-searched : (j end : ℕ) (found : Option ℕ)
-      → MatchOption found ((k : ℕ) → j ≤ k → k < end → test k ≡ false)
-      (λ i. (j ≤ i) × (i < end) × (test i ≡ true) × ((k : ℕ) → j ≤ k → k < i → test k ≡ false))
-      → unwrap_or found (max j end) ≡ next_column test j (end - j)
-  next-searched j end None none =
-      is-next j (end - j)
-      (record { from = omega arith; to = omega arith; before = λ i h b. none i h (omega arith); found = λ h. absurd (omega arith) })
-  next-searched j end (Some i) at =
-      is-next j (end - j) (record { from = at.0; to = omega (arith, at.1); before = at.3; found = λ h. at.2 })

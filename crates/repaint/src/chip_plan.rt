@@ -1,5 +1,5 @@
 // The records that a repaint sends to one chip, each written to the front of a lent part of the output buffer.
-ghost use Rattle.std.specs.Prelude.{◌<◌, ◌≤◌, ◌≡◌, ◌++◌, length, drop};
+ghost use Rattle.std.specs.Prelude.{◌*◌, ◌<◌, ◌≤◌, ◌≡◌, ◌++◌, length, drop};
 ghost use Rattle.basics.specs.Lists.{tabulated};
 ghost use Rattle.sed1520.specs.Records.{record_bytes, records_bytes};
 ghost use Rattle.repaint.specs.Repaint.{writes_length, page_length, hidden_page, lowest_column, column_segment, picture_byte};
@@ -7,12 +7,13 @@ ghost use Rattle.repaint.specs.Repaint.{picture_length, page_set, column_write, 
 ghost use Rattle.sed1520.specs.Laws.{sent};
 ghost use Rattle.frame.specs.Frame.{segments};
 
+use crate::PAGE_BYTES;
 use frame::place::place;
 use sed1520::commands::Opcode;
 use sed1520::registers::Chip;
 
 // The 4 bytes of a record.
-pub(crate) fn put_record(lines: u8, which: u8, byte: u8, output: &mut [u8])
+fn put_record(lines: u8, which: u8, byte: u8, output: &mut [u8])
     requires { 4 ≤ length output.old }
     ensures { output.new ≡ record_bytes (sent lines which byte) ++ drop 4 output.old }
 {
@@ -20,28 +21,6 @@ pub(crate) fn put_record(lines: u8, which: u8, byte: u8, output: &mut [u8])
     output[1] = which;
     output[2] = byte;
     output[3] = 0;
-}
-
-// The hidden page that takes a band of the picture.
-pub(crate) fn hidden_page(chip: Chip, band: u8) -> u8
-    requires { band < 2 }
-    ensures { result ≡ hidden_page chip band }
-{
-    if chip.start_line == 0 { 2 + band } else { band }
-}
-
-// The record that sets that page.
-pub(crate) fn put_page_set(chip: Chip, which: u8, band: u8, output: &mut [u8])
-    requires band_bound { band < 2 }
-    requires in_bounds { 4 ≤ length output.old }
-    ensures { output.new ≡ record_bytes (page_set chip which band) ++ drop 4 output.old }
-{
-    put_record(
-        2,
-        which,
-        Opcode::Page.first() + hidden_page(chip, band),
-        output,
-    );
 }
 
 // The lowest RAM column that a segment is shown from in reverse.
@@ -54,22 +33,8 @@ pub(crate) fn lowest_column(chip: Chip) -> u8
     if chip.reverse { LOWEST_IN_REVERSE } else { 0 }
 }
 
-// The record that sets shown column j.
-pub(crate) fn put_column_set(chip: Chip, which: u8, j: usize, output: &mut [u8])
-    requires j_lt_segments { j < segments }
-    requires in_bounds { 4 ≤ length output.old }
-    ensures { output.new ≡ record_bytes (column_set chip which j) ++ drop 4 output.old }
-{
-    put_record(
-        2,
-        which,
-        Opcode::Column.first() + (lowest_column(chip) + (j as u8)),
-        output,
-    );
-}
-
 // The segment that is shown from shown column j: these are the 61 columns from the lowest on.
-pub(crate) fn column_segment(chip: Chip, j: usize) -> usize
+fn column_segment(chip: Chip, j: usize) -> usize
     requires { j < segments }
     ensures { result ≡ column_segment chip j }
 {
@@ -78,43 +43,6 @@ pub(crate) fn column_segment(chip: Chip, j: usize) -> usize
     } else {
         j
     }
-}
-
-// The picture's byte of a chip's segment in a band.
-pub(crate) fn picture_byte(picture: &[u8], which: u8, n: usize, band: u8) -> u8
-    requires picture_len { length picture.now ≡ picture_length }
-    requires n_lt_segments { n < segments }
-    requires band_bound { band < 2 }
-    ensures { result ≡ picture_byte picture.now which n band }
-{
-    picture[place(which, n as u8, band)]
-}
-
-// The data writes of a page.
-fn put_writes(chip: Chip, which: u8, picture: &[u8], band: u8, output: &mut [u8])
-    requires picture_len { length picture.now ≡ picture_length }
-    requires band_bound { band < 2 }
-    requires writes_length_in_bounds { writes_length ≤ length output.old }
-    ensures { output.new
-        ≡ records_bytes (tabulated (column_write chip which picture.now band) 0 segments) ++ drop writes_length output.old }
-{
-    for j in 0..Chip::SEGMENTS {
-        let byte = picture_byte(picture, which, column_segment(chip, j), band);
-        put_record(3, which, byte, &mut output[4 * j..]);
-    }
-}
-
-// A hidden page: its number, its lowest column, its bytes.
-pub(crate) fn put_page(chip: Chip, which: u8, picture: &[u8], band: u8, output: &mut [u8])
-    requires picture_len { length picture.now ≡ picture_length }
-    requires band_bound { band < 2 }
-    requires page_length_in_bounds { page_length ≤ length output.old }
-    ensures { output.new
-        ≡ records_bytes (page_records chip which picture.now band) ++ drop page_length output.old }
-{
-    put_page_set(chip, which, band, output);
-    put_column_set(chip, which, 0, &mut output[4..]);
-    put_writes(chip, which, picture, band, &mut output[8..]);
 }
 
 // The start line turned from 0 to 16 or from 16 to 0.
@@ -135,4 +63,117 @@ pub(crate) fn put_turn(chip: Chip, which: u8, output: &mut [u8])
         Opcode::StartLine.first() + turned_line(chip),
         output,
     );
+}
+
+// A hidden page of a chip, and the picture of which it takes a band.
+#[derive(Clone, Copy)]
+pub(crate) struct HiddenPage<'a> {
+    pub chip: Chip,
+    pub which: u8,
+    pub picture: &'a [u8],
+    pub band: u8,
+    ghost picture_len: { length picture.now ≡ picture_length },
+    ghost band_bound: { band < 2 },
+}
+
+impl HiddenPage<'_> {
+    // Its number.
+    pub(crate) fn number(&self) -> u8
+        ensures { result ≡ hidden_page self.now.chip self.now.band }
+    {
+        if self.chip.start_line == 0 {
+            2 + self.band
+        } else {
+            self.band
+        }
+    }
+
+    // The picture's byte for shown column j.
+    pub(crate) fn byte_of(&self, j: usize) -> u8
+        requires { j < segments }
+        ensures { result ≡ picture_byte self.now.picture.now self.now.which (column_segment self.now.chip j) self.now.band }
+    {
+        self.picture[place(self.which, column_segment(self.chip, j) as u8, self.band)]
+    }
+
+    // The record that sets it.
+    pub(crate) fn put_page_set(&self, output: &mut [u8])
+        requires { 4 ≤ length output.old }
+        ensures { output.new ≡ record_bytes (page_set self.now.chip self.now.which self.now.band) ++ drop 4 output.old }
+    {
+        put_record(2, self.which, Opcode::Page.first() + self.number(), output);
+    }
+
+    // The record that sets shown column j.
+    pub(crate) fn put_column_set(&self, j: usize, output: &mut [u8])
+        requires j_lt_segments { j < segments }
+        requires in_bounds { 4 ≤ length output.old }
+        ensures { output.new ≡ record_bytes (column_set self.now.chip self.now.which j) ++ drop 4 output.old }
+    {
+        put_record(
+            2,
+            self.which,
+            Opcode::Column.first() + (lowest_column(self.chip) + (j as u8)),
+            output,
+        );
+    }
+
+    // The data write to shown column j.
+    pub(crate) fn put_write(&self, j: usize, output: &mut [u8])
+        requires j_lt_segments { j < segments }
+        requires in_bounds { 4 ≤ length output.old }
+        ensures { output.new
+            ≡ record_bytes (column_write self.now.chip self.now.which self.now.picture.now self.now.band j)
+            ++ drop 4 output.old }
+    {
+        put_record(3, self.which, self.byte_of(j), output);
+    }
+
+    // The data writes of its 61 columns.
+    fn put_writes(&self, output: &mut [u8])
+        requires { writes_length ≤ length output.old }
+        ensures { output.new
+            ≡ records_bytes (tabulated (column_write self.now.chip self.now.which self.now.picture.now self.now.band) 0 segments)
+            ++ drop writes_length output.old }
+    {
+        for j in 0..Chip::SEGMENTS {
+            self.put_write(j, &mut output[4 * j..]);
+        }
+    }
+
+    // All its records: its number, its lowest column, its bytes.
+    fn put(&self, output: &mut [u8])
+        requires { page_length ≤ length output.old }
+        ensures { output.new
+            ≡ records_bytes (page_records self.now.chip self.now.which self.now.picture.now self.now.band)
+            ++ drop page_length output.old }
+    {
+        self.put_page_set(output);
+        self.put_column_set(0, &mut output[4..]);
+        self.put_writes(&mut output[8..]);
+    }
+}
+
+// Both hidden pages of a chip.
+pub(crate) fn put_pages(chip: Chip, which: u8, picture: &[u8], output: &mut [u8])
+    requires picture_len { length picture.now ≡ picture_length }
+    requires page_length_in_bounds { 2 * page_length ≤ length output.old }
+    ensures { output.new
+        ≡ records_bytes (page_records chip which picture.now 0 ++ page_records chip which picture.now 1)
+        ++ drop (2 * page_length) output.old }
+{
+    let lower = HiddenPage {
+        chip,
+        which,
+        picture,
+        band: 0,
+    };
+    let upper = HiddenPage {
+        chip,
+        which,
+        picture,
+        band: 1,
+    };
+    lower.put(output);
+    upper.put(&mut output[PAGE_BYTES..]);
 }

@@ -13,7 +13,7 @@ ghost use Rattle.sed1520.specs.Records.{records_bytes};
 ghost use Rattle.repaint.specs.Repaint.{output_length, picture_length, repaint_records, repaint_sizes_wrong, shows_no_ram, wrong_line};
 ghost use Rattle.repaint.specs.Repaint.{chips_verdict, repaint_cycles, repaint_of};
 
-use crate::chip_plan::{put_page, put_turn};
+use crate::chip_plan::{put_pages, put_turn};
 use basics::refusal::Refusal;
 use basics::verdict::{Refused, Verdict};
 use panel::chips::Chips;
@@ -77,10 +77,8 @@ fn put_records(chips: Chips, picture: &[u8], output: &mut [u8])
         ≡ records_bytes (repaint_records chips.left chips.right picture.now) ++ drop output_length output.old }
 {
     let Chips { left, right } = chips;
-    put_page(left, 0, picture, 0, output);
-    put_page(left, 0, picture, 1, &mut output[PAGE_BYTES..]);
-    put_page(right, 1, picture, 0, &mut output[2 * PAGE_BYTES..]);
-    put_page(right, 1, picture, 1, &mut output[3 * PAGE_BYTES..]);
+    put_pages(left, 0, picture, output);
+    put_pages(right, 1, picture, &mut output[2 * PAGE_BYTES..]);
     put_turn(left, 0, &mut output[4 * PAGE_BYTES..]);
     put_turn(right, 1, &mut output[4 * PAGE_BYTES + 4..]);
 }

@@ -7,135 +7,106 @@ ghost use Rattle.frame.specs.Frame.{segments};
 ghost use Rattle.repaint.specs.Repaint.{writes_length, page_length, picture_length};
 ghost use Rattle.repaint.specs.Sparing.{differs, chosen_columns, chosen_page, chip_records, put_front, next_column, run_writes};
 
-use crate::chip_plan::{
-    column_segment, hidden_page, lowest_column, picture_byte, put_column_set, put_page_set,
-    put_record,
-};
+use crate::chip_plan::{HiddenPage, lowest_column};
 use sed1520::bus::RECORD_BYTES;
 use sed1520::memory::index;
 use sed1520::registers::Chip;
 
-// Whether the byte of shown column j of a hidden page differs from the picture's.
-fn column_differs(chip: Chip, which: u8, ram: &[u8], picture: &[u8], band: u8, j: usize) -> bool
-    requires ram_len { length ram.now ≡ ram_length }
-    requires picture_len { length picture.now ≡ picture_length }
-    requires band_bound { band < 2 }
-    requires j_lt_segments { j < segments }
-    ensures { result ≡ differs chip which ram.now picture.now band j }
-{
-    let held = ram[index(hidden_page(chip, band), lowest_column(chip) + (j as u8))];
-    held != picture_byte(picture, which, column_segment(chip, j), band)
+// A hidden page, and the display RAM of its chip.
+#[derive(Clone, Copy)]
+struct HeldPage<'p, 'r> {
+    page: HiddenPage<'p>,
+    ram: &'r [u8],
+    ghost ram_len: { length ram.now ≡ ram_length },
 }
 
-// The first column that differs, of those from `from` on, or the one past the last.
-fn next_changed(chip: Chip, which: u8, ram: &[u8], picture: &[u8], band: u8, from: usize) -> usize
-    requires ram_len { length ram.now ≡ ram_length }
-    requires picture_len { length picture.now ≡ picture_length }
-    requires band_bound { band < 2 }
-    ensures { result ≡ next_column (differs chip which ram.now picture.now band) from (segments - from) }
-{
-    (from..Chip::SEGMENTS)
-        .find(|&j| column_differs(chip, which, ram, picture, band, j))
-        .unwrap_or(from.max(Chip::SEGMENTS))
-}
+impl HeldPage<'_, '_> {
+    // Whether the byte of shown column j differs from the picture's.
+    fn differs(&self, j: usize) -> bool
+        requires { j < segments }
+        ensures { let page = self.now.page in
+            result ≡ differs page.chip page.which self.now.ram.now page.picture.now page.band j }
+    {
+        let column = lowest_column(self.page.chip) + (j as u8);
+        self.ram[index(self.page.number(), column)] != self.page.byte_of(j)
+    }
 
-// The data writes of the run that begins at `from`, up to the first column that does not differ; gives how many bytes they
-// are.
-fn put_run_writes(
-    chip: Chip,
-    which: u8,
-    ram: &[u8],
-    picture: &[u8],
-    band: u8,
-    from: usize,
-    output: &mut [u8],
-) -> usize
-    requires ram_len { length ram.now ≡ ram_length }
-    requires picture_len { length picture.now ≡ picture_length }
-    requires band_bound { band < 2 }
-    requires from_le_segments { from ≤ segments }
-    requires from_in_bounds { 4 * (segments - from) ≤ length output.old }
-    ensures { result_of result output.new
-        ≡ put_front (run_writes chip which picture.now band (differs chip which ram.now picture.now band) from)
-        output.old }
-{
-    let mut bytes = 0;
-    for column in from..Chip::SEGMENTS {
-        if !column_differs(chip, which, ram, picture, band, column) {
-            return bytes;
+    // The first column that differs, of those from `from` on, or the one past the last.
+    fn next_changed(&self, from: usize) -> usize
+        ensures { let page = self.now.page in
+            result
+            ≡ next_column (differs page.chip page.which self.now.ram.now page.picture.now page.band) from (segments - from) }
+    {
+        let held = *self;
+        for j in from..Chip::SEGMENTS {
+            if held.differs(j) {
+                return j;
+            }
         }
-        let byte = picture_byte(picture, which, column_segment(chip, column), band);
-        put_record(3, which, byte, &mut output[bytes..]);
-        bytes = bytes + RECORD_BYTES;
+        from.max(Chip::SEGMENTS)
     }
-    bytes
-}
 
-// The records of the columns that differ, run by run, where the first is known; gives how many bytes they are.
-fn put_columns(
-    chip: Chip,
-    which: u8,
-    ram: &[u8],
-    picture: &[u8],
-    band: u8,
-    first: usize,
-    output: &mut [u8],
-) -> usize
-    requires ram_len { length ram.now ≡ ram_length }
-    requires picture_len { length picture.now ≡ picture_length }
-    requires band_bound { band < 2 }
-    requires first_value { first ≡ next_column (differs chip which ram.now picture.now band) 0 segments }
-    requires writes_length_in_bounds { 4 + writes_length ≤ length output.old }
-    ensures { result_of result output.new
-        ≡ put_front
-        (chosen_columns chip which picture.now band (differs chip which ram.now picture.now band) 0 segments)
-        output.old }
-{
-    let mut at = 0;
-    let mut run = first;
-    while run < Chip::SEGMENTS {
-        put_column_set(chip, which, run, &mut output[at..]);
-        at = at + RECORD_BYTES;
-        let bytes = put_run_writes(chip, which, ram, picture, band, run, &mut output[at..]);
-        at = at + bytes;
-        run = next_changed(chip, which, ram, picture, band, run + bytes / RECORD_BYTES);
+    // The data writes of the run that begins at `from`, up to the first column that does not differ; gives how many bytes
+    // they are.
+    fn put_run_writes(&self, from: usize, output: &mut [u8]) -> usize
+        requires from_le_segments { from ≤ segments }
+        requires from_in_bounds { 4 * (segments - from) ≤ length output.old }
+        ensures { let page = self.now.page in
+            let test = differs page.chip page.which self.now.ram.now page.picture.now page.band in
+            result_of result output.new
+            ≡ put_front (run_writes page.chip page.which page.picture.now page.band test from) output.old }
+    {
+        // A copy, which no write to the output can change: the loop then keeps it in registers.
+        let held = *self;
+        let mut bytes = 0;
+        for column in from..Chip::SEGMENTS {
+            if !held.differs(column) {
+                return bytes;
+            }
+            held.page.put_write(column, &mut output[bytes..]);
+            bytes += RECORD_BYTES;
+        }
+        bytes
     }
-    at
-}
 
-// A hidden page: nothing where no column differs, else the page set and the columns that do; gives how many bytes it wrote.
-#[tactic(auto, using(crate::proofs::Bytes::page_unchanged))]
-fn put_changed_page(
-    chip: Chip,
-    which: u8,
-    ram: &[u8],
-    picture: &[u8],
-    band: u8,
-    output: &mut [u8],
-) -> usize
-    requires ram_len { length ram.now ≡ ram_length }
-    requires picture_len { length picture.now ≡ picture_length }
-    requires band_bound { band < 2 }
-    requires page_length_in_bounds { page_length ≤ length output.old }
-    ensures { result_of result output.new
-        ≡ put_front (chosen_page chip which picture.now band (differs chip which ram.now picture.now band))
-        output.old }
-{
-    let first = next_changed(chip, which, ram, picture, band, 0);
-    if Chip::SEGMENTS <= first {
-        return 0;
+    // The records of the columns that differ, run by run, where the first is known; gives how many bytes they are.
+    fn put_columns(&self, first: usize, output: &mut [u8]) -> usize
+        requires first_value { let page = self.now.page in
+            first ≡ next_column (differs page.chip page.which self.now.ram.now page.picture.now page.band) 0 segments }
+        requires writes_length_in_bounds { 4 + writes_length ≤ length output.old }
+        ensures { let page = self.now.page in
+            let test = differs page.chip page.which self.now.ram.now page.picture.now page.band in
+            result_of result output.new
+            ≡ put_front (chosen_columns page.chip page.which page.picture.now page.band test 0 segments) output.old }
+    {
+        let mut at = 0;
+        let mut run = first;
+        while run < Chip::SEGMENTS {
+            self.page.put_column_set(run, &mut output[at..]);
+            at = at + RECORD_BYTES;
+            let bytes = self.put_run_writes(run, &mut output[at..]);
+            at = at + bytes;
+            run = self.next_changed(run + bytes / RECORD_BYTES);
+        }
+        at
     }
-    put_page_set(chip, which, band, output);
-    RECORD_BYTES
-        + put_columns(
-            chip,
-            which,
-            ram,
-            picture,
-            band,
-            first,
-            &mut output[RECORD_BYTES..],
-        )
+
+    // Nothing where no column differs, else the page set and the columns that do; gives how many bytes it wrote.
+    #[tactic(auto, using(crate::proofs::Bytes::page_unchanged))]
+    fn put_changed(&self, output: &mut [u8]) -> usize
+        requires { page_length ≤ length output.old }
+        ensures { let page = self.now.page in
+            let test = differs page.chip page.which self.now.ram.now page.picture.now page.band in
+            result_of result output.new
+            ≡ put_front (chosen_page page.chip page.which page.picture.now page.band test) output.old }
+    {
+        let first = self.next_changed(0);
+        if Chip::SEGMENTS <= first {
+            return 0;
+        }
+        self.page.put_page_set(output);
+        RECORD_BYTES + self.put_columns(first, &mut output[RECORD_BYTES..])
+    }
 }
 
 // Both hidden pages of a chip; gives how many bytes it wrote.
@@ -152,6 +123,18 @@ pub(crate) fn put_changed_pages(
     ensures { result_of result output.new
         ≡ put_front (chip_records chip which ram.now picture.now) output.old }
 {
-    let first = put_changed_page(chip, which, ram, picture, 0, output);
-    first + put_changed_page(chip, which, ram, picture, 1, &mut output[first..])
+    let lower = HiddenPage {
+        chip,
+        which,
+        picture,
+        band: 0,
+    };
+    let upper = HiddenPage {
+        chip,
+        which,
+        picture,
+        band: 1,
+    };
+    let first = HeldPage { page: lower, ram }.put_changed(output);
+    first + HeldPage { page: upper, ram }.put_changed(&mut output[first..])
 }

@@ -5,13 +5,9 @@ use mathlib.Core.Path.{◌≡◌}
 use mathlib.Core.List.{List}
 use mathlib.Core.Logic.{⊎_elim}
 use lib.Dec.{eqb}
-use borrow.Author.Tests.{ne_eqb}
 use Rattle.basics.proofs.Tests.{tested}
 use Rattle.sed1520.specs.BytesRun.{columns_written}
 use Rattle.sed1520.specs.Records.{front}
 
 pub none-moved : (trace : List ℕ) (start : ℕ) (b : List ℕ) → 0 ≡ columns_written trace start b b
 none-moved trace start b = ⊎_elim (λ t. rw t (omega arith)) (λ t. rw t) (tested (eqb (front trace).lines 3))
-
-pub others-move : (trace : List ℕ) (start : ℕ) (b after : List ℕ) → ((front trace).lines ≡ 3 → ⊥) → 0 ≡ columns_written trace start b after
-others-move trace start b after h = rw (ne_eqb (front trace).lines 3 h)

@@ -100,6 +100,7 @@ impl Chip {
     }
 
     // A data read answers what the latch held.
+    #[tactic(auto, unfolding(crate::specs::Cycle::data_read))]
     pub(crate) fn data_read(self, ram: &[u8]) -> Accepted
         ensures { accepted result ≡ data_read self ram.now }
     {
@@ -107,6 +108,7 @@ impl Chip {
     }
 
     // D6: forward. D5: display off. The other bits are 0.
+    #[tactic(auto, unfolding(crate::specs::Cycle::status_byte))]
     pub(crate) fn status_byte(self) -> u8
         ensures { result ≡ status_byte self }
     {

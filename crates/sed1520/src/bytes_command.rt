@@ -11,6 +11,7 @@ use crate::commands::{Command, Opcode};
 use basics::refusal::Refusal;
 
 // Read-modify-write on, with the column saved; already on, nothing is stored.
+#[tactic(auto, unfolding(crate::specs::ChipBytes::chip_bytes, crate::specs::Cycle::execute, crate::specs::ChipBytes::registers_in))]
 fn begin_modify(bytes: &mut [u8])
     requires { length bytes.old ≡ chip_length }
     ensures { bytes.new ≡ executed_bytes Modify 0 bytes.old }
@@ -22,6 +23,7 @@ fn begin_modify(bytes: &mut [u8])
 }
 
 // Read-modify-write off, back at the saved column, none saved, the latch stale; already off, nothing is stored.
+#[tactic(auto, unfolding(crate::specs::ChipBytes::chip_bytes, crate::specs::Cycle::execute, crate::specs::ChipBytes::registers_in))]
 fn end_modify(bytes: &mut [u8])
     requires { length bytes.old ≡ chip_length }
     ensures { bytes.new ≡ executed_bytes End 0 bytes.old }
@@ -35,6 +37,7 @@ fn end_modify(bytes: &mut [u8])
 }
 
 // An accepted command stores the bytes of the registers that it sets and no others.
+#[tactic(auto, unfolding(crate::specs::ChipBytes::chip_bytes, crate::specs::Cycle::execute, crate::specs::ChipBytes::registers_in))]
 fn execute(bytes: &mut [u8], command: Command)
     requires { length bytes.old ≡ chip_length }
     ensures { bytes.new ≡ executed_bytes command.opcode command.argument bytes.old }

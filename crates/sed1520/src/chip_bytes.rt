@@ -31,6 +31,7 @@ fn latch_of(mark: u8, byte: u8) -> ReadLatch
 }
 
 // The registers that 12 bytes say, their flags, mark and last byte not tested.
+#[tactic(auto, unfolding(crate::specs::ChipBytes::registers_in))]
 pub(crate) fn registers_in(bytes: &[u8]) -> Chip
     requires { length bytes.now ≡ chip_length }
     ensures { result ≡ registers_in bytes.now }
@@ -82,6 +83,7 @@ pub fn no_chip() -> Chip
 
 // The chip of 12 bytes; where there are not 12, or a flag, the mark or the last byte is wrong, one that number 2 does not
 // let pass. A chip so given is for testing and not for writing back.
+#[tactic(auto, unfolding(crate::specs::ChipBytes::chip_in))]
 pub fn chip_in(bytes: &[u8]) -> Chip
     ensures { result ≡ chip_in bytes.now }
 {

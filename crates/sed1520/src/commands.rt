@@ -80,6 +80,7 @@ impl TryFrom<Command> for u8 {
 
     ghost try_from_gives = { λ command result. coded_byte result ≡ encode_of command };
 
+    #[tactic(auto, unfolding(crate::specs::Command::encode_of))]
     fn try_from(command: Command) -> Result<u8, UnknownArgument> {
         if command.argument < command.opcode.count() {
             Ok(command.opcode.first() + command.argument)

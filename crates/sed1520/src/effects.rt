@@ -8,6 +8,7 @@ use crate::registers::Chip;
 
 impl Chip {
     // Read-modify-write on, with the column saved; already on, nothing changes.
+    #[tactic(auto, unfolding(crate::specs::Cycle::execute))]
     fn modify_begun(mut self) -> Chip
         ensures { result ≡ execute Modify 0 self }
     {
@@ -20,6 +21,7 @@ impl Chip {
     }
 
     // Read-modify-write off, back at the saved column, none saved, the latch stale; already off, nothing changes.
+    #[tactic(auto, unfolding(crate::specs::Cycle::execute))]
     fn modify_ended(mut self) -> Chip
         ensures { result ≡ execute End 0 self }
     {
@@ -33,6 +35,7 @@ impl Chip {
     }
 
     // Start line, column and page 0, the latch stale; the rest stays.
+    #[tactic(auto, unfolding(crate::specs::Cycle::execute))]
     fn reset(mut self) -> Chip
         ensures { result ≡ execute Reset 0 self }
     {
@@ -43,6 +46,7 @@ impl Chip {
     }
 
     // What an accepted command does.
+    #[tactic(auto, unfolding(crate::specs::Cycle::execute))]
     pub(crate) fn execute(mut self, command: Command) -> Chip
         ensures { result ≡ execute command.opcode command.argument self }
     {

@@ -5,6 +5,7 @@ ghost use Rattle.sed1520.specs.Memory.{ram_index, image_index, byte_at, byte_set
 use crate::registers::Chip;
 
 // The place of the byte.
+#[tactic(auto, unfolding(crate::specs::Memory::ram_index))]
 pub fn index(page: u8, column: u8) -> usize
     ensures { result ≡ ram_index page column }
 {

@@ -74,6 +74,7 @@ impl Chip {
     pub const RAM_WIDTH: usize = 4 * Chip::PAGE_WIDTH;
 
     // The chip before its first cycle, a project rule.
+    #[tactic(auto, unfolding(crate::specs::Chip::fresh))]
     pub fn fresh() -> Chip
         ensures { result ≡ fresh }
     {

@@ -28,7 +28,6 @@ use Rattle.frame.proofs.HalfLaws.{half-laws}
 use Rattle.frame.proofs.Lines.{no-segment}
 use Rattle.visible.specs.Changes.{half_changed}
 use Rattle.visible.specs.Sight.{bits_differing, same_shown_registers, half_seen, half_sight, half_sight_of}
-use Rattle.visible.specs.declared.half.Seen.{Seen}
 use Rattle.visible.proofs.HalfCounts.{segment-counted, same_half, one-segment}
 
 -- only one segment shows the column at which a chip stands
@@ -132,8 +131,8 @@ module _ (r : Record) (c : Chip) (ram : List ℕ) (o : Outcome) (e : o ≡ cycle
   command-sight other counted = counted ∙ ap (λ (l : List ℕ). half_changed c l next o.ram) (ram-kept other)
 
 -- a refused record, which changes nothing
-pub failed-seen : (r : Record) (c : Chip) (ram : List ℕ) {after : List ℕ} (given : Result Seen Refusal) (why : Refusal)
-    → IsErrAnd given (λ g. g ≡ why) → outcome (refusal (number_of why) c) after ≡ cycle_of r c ram → half_sight c given after ≡ half_sight_of r c ram
+pub failed-seen : (r : Record) (c : Chip) (ram : List ℕ) {after : List ℕ} (given : Result ℕ Refusal) (why : Refusal)
+    → IsErrAnd given (λ g. g ≡ why) → outcome (refusal (number_of why) c) after ≡ cycle_of r c ram → half_sight given c after ≡ half_sight_of r c ram
 failed-seen r c ram given why failed e =
     let kept = e ∙ (every-cycle-keeps r c ram).refused (rw (← e) (refusal-number why)) in
     rw (failed-with given failed)

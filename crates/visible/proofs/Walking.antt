@@ -32,7 +32,7 @@ use Rattle.sed1520.proofs.Records.{records-length, record-at}
 use Rattle.panel.specs.Trace.{trace_run}
 use Rattle.visible.specs.Changes.{before, changed_at, pixels_changed, Entry, as_entry, entry_at, entries_before}
 use Rattle.visible.specs.Sight.{Sight, sight_of, Listing, listing, one_more, put_entries, Walked}
-use Rattle.visible.specs.declared.watch.Watched.{Watched}
+use Rattle.visible.specs.declared.watch.Pixels.{Pixels}
 use Rattle.visible.proofs.FramesSame.{frames-by-counts}
 use Rattle.visible.proofs.HalfCounts.{half-few}
 use Rattle.visible.proofs.Listings.{none-put, more-listed}
@@ -214,13 +214,13 @@ module _ {p : Panel} {trace buffer : List ℕ} {panel : Panel} {entries : List �
           }
 
 -- what was seen of a record, or its refusal, by what it is with the record's index put beside the refusal
-pub was-ok : (came : Result Watched Refusal) (at : ℕ) {w : Watched}
-    → MatchResult came (λ x. ◌≡◌ {A = Result Watched Refused} (Ok w) (Ok x)) (λ why. IsErrAnd {T = Watched} (Ok w) (λ g. g ≡ refused why at))
+pub was-ok : (came : Result Pixels Refusal) (at : ℕ) {w : Pixels}
+    → MatchResult came (λ x. ◌≡◌ {A = Result Pixels Refused} (Ok w) (Ok x)) (λ why. IsErrAnd {T = Pixels} (Ok w) (λ g. g ≡ refused why at))
     → came ≡ Ok w
-was-ok (Ok x) at is = ap (λ (given : Result Watched Refused). Ok (result_unwrap_or given x)) (sym is)
+was-ok (Ok x) at is = ap (λ (given : Result Pixels Refused). Ok (result_unwrap_or given x)) (sym is)
 was-ok (Err why) at is = absurd is
 
-pub was-err : (came : Result Watched Refusal) (g : Refused) (P : Refusal → Type 0) → false ≡ is_ok came
-    → MatchResult came (λ x. ◌≡◌ {A = Result Watched Refused} (Err g) (Ok x)) P → (why : Refusal) × ((came ≡ Err why) × P why)
+pub was-err : (came : Result Pixels Refusal) (g : Refused) (P : Refusal → Type 0) → false ≡ is_ok came
+    → MatchResult came (λ x. ◌≡◌ {A = Result Pixels Refused} (Err g) (Ok x)) P → (why : Refusal) × ((came ≡ Err why) × P why)
 was-err (Ok x) g P none is = absurd (false≢true none)
 was-err (Err why) g P none is = (why, (refl, is))

@@ -17,8 +17,7 @@ use Rattle.panel.specs.declared.chips.Chips.{Chips}
 use Rattle.sed1520.specs.declared.bus.Record.{Record}
 use Rattle.sed1520.specs.declared.registers.Chip.{Chip}
 use Rattle.visible.specs.Changes.{Entry, entries_before, entry_bytes, entries_bytes, half_changed, pixels_changed}
-use Rattle.visible.specs.declared.half.Seen.{Seen}
-use Rattle.visible.specs.declared.watch.Watched.{Watched}
+use Rattle.visible.specs.declared.watch.Pixels.{Pixels}
 
 -- how many of the 32 lowest bits of two numbers differ
 abbrev pub bits_differing : ℕ → ℕ → ℕ
@@ -38,10 +37,10 @@ HalfSight = CallResult HalfSeen (List ℕ)
 abbrev pub half_seen : ℕ → Chip → ℕ → List ℕ → HalfSight
 half_seen n c pixels ram = result_of (record { number = n; chip = c; pixels = pixels }) ram
 
--- what the code gives back and leaves for a record on one chip, as a half's sight: of a refused record its number, the chip as it came, and no pixels
-abbrev pub half_sight : Chip → Result Seen Refusal → List ℕ → HalfSight
-half_sight c (Ok s) ram = half_seen 0 s.chip s.pixels ram
-half_sight c (Err r) ram = half_seen (number_of r) c 0 ram
+-- what the code gives back and leaves for a record on one chip, as a half's sight: of a refused record its number and no pixels
+abbrev pub half_sight : Result ℕ Refusal → Chip → List ℕ → HalfSight
+half_sight (Ok pixels) next ram = half_seen 0 next pixels ram
+half_sight (Err r) next ram = half_seen (number_of r) next 0 ram
 
 -- a record on one chip: number, chip and RAM as the cycle leaves them, and how many pixels of the half differ from before it
 abbrev pub half_sight_of : Record → Chip → List ℕ → HalfSight
@@ -63,10 +62,10 @@ sight n p left right = record { number = n; panel = p; left = left; right = righ
 abbrev pub sight_of : Panel → Record → Sight
 sight_of p r = let next = stepped p r in sight (outcome_of p r).answer.number next (pixels_changed p next 0) (pixels_changed p next 1)
 
--- what the code gives back and leaves for a record on the panel, as a sight: of a refused record its number, the chips as they came, and no pixels
-abbrev pub watched : Chips → Result Watched Refusal → List ℕ → Sight
-watched c (Ok w) ram = sight 0 (as_panel w.chips.left w.chips.right ram) w.left_pixels w.right_pixels
-watched c (Err r) ram = sight (number_of r) (as_panel c.left c.right ram) 0 0
+-- what the code gives back and leaves for a record on the panel, as a sight: of a refused record its number and no pixels
+abbrev pub watched : Result Pixels Refusal → Chips → List ℕ → Sight
+watched (Ok p) next ram = sight 0 (as_panel next.left next.right ram) p.left p.right
+watched (Err r) next ram = sight (number_of r) (as_panel next.left next.right ram) 0 0
 
 -- whether two chips are alike in the registers that are shown
 unfoldable pub same_shown_registers : Chip → Chip → Bool

@@ -11,13 +11,6 @@ use frame::segment::segment_pixels;
 use sed1520::bus::{Record, cycle};
 use sed1520::registers::Chip;
 
-// The chip after a record, and how many pixels of its half differ from before it.
-#[derive(Clone, Copy)]
-pub(crate) struct Seen {
-    pub chip: Chip,
-    pub pixels: u32,
-}
-
 // How many of 32 pixels differ.
 fn differing(one: u32, other: u32) -> u32
     ensures { result ≡ bits_differing one other }
@@ -69,47 +62,44 @@ fn segment_at(chip: Chip) -> usize
 }
 
 // A data write: it can change the segment of its column.
-fn watch_write(bus: Record, chip: Chip, ram: &mut [u8]) -> Result<Seen, Refusal>
-    requires fit { Fit chip ram.old }
+fn watch_write(bus: Record, chip: &mut Chip, ram: &mut [u8]) -> Result<u32, Refusal>
+    requires fit { Fit chip.old ram.old }
     requires lines_value { bus.lines ≡ 3 }
-    ensures { half_sight chip result ram.new ≡ half_sight_of bus chip ram.old }
+    ensures { half_sight result chip.new ram.new ≡ half_sight_of bus chip.old ram.old }
 {
-    let n = segment_at(chip);
-    let before = pixels_of(chip, ram, n);
-    let next = cycle(bus, chip, ram)?.chip;
-    let after = pixels_of(next, ram, n);
-    Ok(Seen {
-        chip: next,
-        pixels: differing(before, after),
-    })
+    let n = segment_at(*chip);
+    let before = pixels_of(*chip, ram, n);
+    *chip = cycle(bus, *chip, ram)?.chip;
+    let after = pixels_of(*chip, ram, n);
+    Ok(differing(before, after))
 }
 
 // A command: it can change the half only where it changes a register that is shown.
-fn watch_command(bus: Record, chip: Chip, ram: &mut [u8]) -> Result<Seen, Refusal>
-    requires fit { Fit chip ram.old }
+fn watch_command(bus: Record, chip: &mut Chip, ram: &mut [u8]) -> Result<u32, Refusal>
+    requires fit { Fit chip.old ram.old }
     requires lines_value { bus.lines ≡ 2 }
-    ensures { half_sight chip result ram.new ≡ half_sight_of bus chip ram.old }
+    ensures { half_sight result chip.new ram.new ≡ half_sight_of bus chip.old ram.old }
 {
-    let next = cycle(bus, chip, ram)?.chip;
-    let pixels = if same_shown_registers(chip, next) {
-        0
-    } else {
-        half_differing(chip, next, ram)
-    };
-    Ok(Seen { chip: next, pixels })
+    let before = *chip;
+    *chip = cycle(bus, before, ram)?.chip;
+    if same_shown_registers(before, *chip) {
+        return Ok(0);
+    }
+    Ok(half_differing(before, *chip, ram))
 }
 
-// Any record to a chip and its part of the image.
-pub(crate) fn watch_half(bus: Record, chip: Chip, ram: &mut [u8]) -> Result<Seen, Refusal>
-    requires { Fit chip ram.old }
-    ensures { half_sight chip result ram.new ≡ half_sight_of bus chip ram.old }
+// Any record to a chip and its part of the image, which both go on to what follows; gives how many pixels of the half differ
+// from before it.
+pub(crate) fn watch_half(bus: Record, chip: &mut Chip, ram: &mut [u8]) -> Result<u32, Refusal>
+    requires { Fit chip.old ram.old }
+    ensures { half_sight result chip.new ram.new ≡ half_sight_of bus chip.old ram.old }
 {
     match bus.lines {
         3 => watch_write(bus, chip, ram),
         2 => watch_command(bus, chip, ram),
-        _ => Ok(Seen {
-            chip: cycle(bus, chip, ram)?.chip,
-            pixels: 0,
-        }),
+        _ => {
+            *chip = cycle(bus, *chip, ram)?.chip;
+            Ok(0)
+        }
     }
 }

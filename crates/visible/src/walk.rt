@@ -60,9 +60,8 @@ fn walk(chips: Chips, ram: &mut [u8], trace: &[u8], entries: &mut [u8]) -> Resul
     let mut listed = 0;
     for (at, record) in trace.chunks_exact(RECORD_BYTES).enumerate() {
         let bus = Record::from([record[0], record[1], record[2], record[3]]);
-        let seen = watch(bus, now, ram).map_err(|refusal| Refused::new(refusal, at as u64))?;
-        listed = list_entry(entries, listed, at, seen.left_pixels, seen.right_pixels);
-        now = seen.chips;
+        let seen = watch(bus, &mut now, ram).map_err(|refusal| Refused::new(refusal, at as u64))?;
+        listed = list_entry(entries, listed, at, seen.left, seen.right);
     }
     Ok(listed)
 }
