@@ -1,17 +1,21 @@
--- Bytes put one after the other into a buffer, as many as there is room for.
+-- Bytes put one after the other into a text, as many as there is room for.
 use Prim.Native.Nat.{ℕ, suc, ◌+◌, ◌≤◌}
 use native.Mathlib.Omega.{arith}
 use mathlib.Core.Path.{◌≡◌, refl, sym, ◌∙◌}
 use mathlib.Core.Logic.{⊎_elim}
 use mathlib.Core.List.{List, [], ◌∷◌, ◌++◌}
 use lib.Dec.{leb}
-use lib.ListN.{length, set, length-append}
-use lib.Seq.{sets, set_out, length-sets}
+use lib.ListN.{length, set, take, length-append}
+use lib.Seq.{paste, sets, set_out, length-sets}
 use borrow.Author.Tests.{leb-true, leb-false}
+use Rattle.std.proofs.lemmas.List.{take_all}
+use Rattle.std.proofs.lemmas.List.Edits.{sets-eq, take-paste}
 use Rattle.basics.specs.Lists.{joined}
 use Rattle.basics.proofs.Lists.{joined-next}
 use Rattle.basics.proofs.Tests.{tested}
+use Rattle.console.specs.Puts.{Puts, text_of}
 use Rattle.console.specs.Text.{Put}
+use Rattle.console.specs.declared.text.Text.{Text}
 
 -- more bytes past those that were put
 sets-append : (xs ys l : List ℕ) (i : ℕ) → sets l i (xs ++ ys) ≡ sets (sets l i xs) (i + length xs) ys
@@ -29,13 +33,7 @@ sets-past (x ∷ xs) l i h = rw (set_out l i x h) (sets-past xs l (suc i) (omega
 none_more : (xs ys l : List ℕ) (at i : ℕ) → length l ≤ i → sets (sets l at xs) i ys ≡ sets l at xs
 none_more xs ys l at i h = sets-past ys (sets l at xs) i (omega (arith, length-sets l at xs))
 
-pub put-none : (l : List ℕ) (at : ℕ) → Put l l at at []
-put-none l at = record { text = refl; next_place = omega arith }
-
-pub no_room : (l : List ℕ) (at b : ℕ) → length l ≤ at → Put l l at at (b ∷ [])
-no_room l at b h = record { text = sym (set_out l at b h); next_place = omega arith }
-
-pub put-more : {l m n : List ℕ} {at mid end : ℕ} {xs ys : List ℕ} → Put l m at mid xs → Put m n mid end ys → Put l n at end (xs ++ ys)
+put-more : {l m n : List ℕ} {at mid end : ℕ} {xs ys : List ℕ} → Put l m at mid xs → Put m n mid end ys → Put l n at end (xs ++ ys)
 put-more {l} {m} {n} {at} {mid} {end} {xs} {ys} p q =
     let same : length m ≡ length l = rw p.text (length-sets l at xs) in
     record {
@@ -49,16 +47,26 @@ put-more {l} {m} {n} {at} {mid} {end} {xs} {ys} p q =
       next_place = omega (arith, same, p.next_place, q.next_place, length-append xs ys);
     }
 
+pub none : (t : Text) → Puts t [] t
+none t = record { same_buffer = refl; put = record { text = refl; next_place = omega arith } }
+
+pub more : {t u v : Text} {xs ys : List ℕ} → Puts t xs u → Puts u ys v → Puts t (xs ++ ys) v
+more p q = record { same_buffer = q.same_buffer ∙ p.same_buffer; put = put-more p.put q.put }
+
 -- pieces put one after the other, as a loop puts them
 module _ (f : ℕ → List ℕ) where
-  pub no-piece : (l : List ℕ) (at : ℕ) → Put l l at at (joined f 0 0)
+  pub no-piece : (t : Text) → Puts t (joined f 0 0) t
   unfolding joined
-  no-piece l at = put-none l at
+  no-piece t = none t
 
-  pub one-piece-more : {l m n : List ℕ} {at mid end : ℕ} (index : ℕ) → Put l m at mid (joined f 0 index) → Put m n mid end (f index)
-      → Put l n at end (joined f 0 (index + 1))
-  one-piece-more index so_far next = rw (joined-next f index) (put-more so_far next)
+  pub one-piece-more : {t u v : Text} (index : ℕ) → Puts t (joined f 0 index) u → Puts u (f index) v → Puts t (joined f 0 (index + 1)) v
+  one-piece-more index so_far next = rw (joined-next f index) (more so_far next)
 
--- where all of it fits from the front on, the place past it is its length
-pub put_whole : {l m : List ℕ} {next : ℕ} {xs : List ℕ} → Put l m 0 next xs → length xs ≤ length l → next ≡ length xs
-put_whole p h = omega (arith, p.next_place)
+-- where there is room for all of it, the text ends with it
+pub whole : {t u : Text} {xs : List ℕ} → Puts t xs u → t.len + length xs ≤ length t.out.now → text_of u ≡ text_of t ++ xs
+whole {t} {u} {xs} p h =
+    let end : u.len ≡ t.len + length xs = omega (arith, p.put.next_place) in
+    let all : take (length xs) xs ≡ xs = take_all (length xs) xs (omega arith) in
+    let front : take (t.len + length xs) (paste t.out.now t.len xs (length xs)) ≡ text_of t ++ take (length xs) xs =
+    take-paste t.out.now t.len xs (length xs) t.within (omega arith) in
+    rw (end, p.put.text, sets-eq xs t.out.now t.len h) (rw all at front)

@@ -1,3 +1,4 @@
 pub mod Input
+pub mod Puts
 pub mod Start
 pub mod Text

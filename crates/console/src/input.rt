@@ -9,6 +9,7 @@ pub fn read_input<R: Read>(reader: &mut R, buffer: &mut [u8]) -> io::Result<usiz
     ensures { read_in result ≤ length buffer.new }
 {
     let mut done = 0;
+    // A read may give fewer bytes than asked, so the loop moves on by what it gave.
     while done < buffer.len() {
         let count = reader.read(&mut buffer[done..])?;
         if count == 0 {

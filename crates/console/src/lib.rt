@@ -3,6 +3,7 @@
 #![tactic(auto)]
 
 pub mod input;
+pub mod program;
 pub mod text;
 
 use panel::trace::TRACE_BYTES;

@@ -65,7 +65,7 @@ pub(crate) fn put_turn(chip: Chip, which: u8, output: &mut [u8])
     );
 }
 
-// A hidden page of a chip, and the picture of which it takes a band.
+// A hidden page of a chip, and the picture of which it takes a band. No two are compared or printed, so no more is derived.
 #[derive(Clone, Copy)]
 pub(crate) struct HiddenPage<'a> {
     pub chip: Chip,

@@ -12,7 +12,7 @@ use sed1520::bus::RECORD_BYTES;
 use sed1520::memory::index;
 use sed1520::registers::Chip;
 
-// A hidden page, and the display RAM of its chip.
+// A hidden page, and the display RAM of its chip. No two are compared or printed, so no more is derived.
 #[derive(Clone, Copy)]
 struct HeldPage<'p, 'r> {
     page: HiddenPage<'p>,
@@ -81,6 +81,7 @@ impl HeldPage<'_, '_> {
     {
         let mut at = 0;
         let mut run = first;
+        // A turn takes a whole run, so the loop moves on by what it gave.
         while run < Chip::SEGMENTS {
             self.page.put_column_set(run, &mut output[at..]);
             at = at + RECORD_BYTES;

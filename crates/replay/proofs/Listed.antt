@@ -19,10 +19,12 @@ use Rattle.trace.proofs.AfterEach.{replies-bound}
 use Rattle.trace.proofs.Bounds.{replay-bounded}
 use Rattle.trace.proofs.InPlace.{by_value}
 use Rattle.trace.proofs.ReplayNumbers.{table, sizes-right}
+use Rattle.console.specs.Puts.{Puts}
+use Rattle.console.specs.declared.text.Text.{Text}
 use Rattle.console.specs.Start.{start, answers_length, blank_answers}
-use Rattle.console.specs.Text.{refused_before, end_line, Put}
+use Rattle.console.specs.Text.{refused_before, end_line}
 use Rattle.console.proofs.Digits.{end-bound}
-use Rattle.console.proofs.Puts.{put-more}
+use Rattle.console.proofs.Puts.{more}
 use Rattle.replay.specs.Text.{answer_lines, answers_given, replay_text, program_text}
 use Rattle.replay.proofs.Lines.{lines-bound}
 
@@ -87,9 +89,7 @@ module _ {trace answers' : List ℕ} {done : Tally} (ran : FromFresh trace answe
   pub given-fits : 2 * answers_given done.number done.place ≤ answers_length
   given-fits = rw ran.tally (omega (arith, given-space start trace blank_answers, length-replicate {A = ℕ} answers_length 0))
 
-  pub listed : {out mid end : List ℕ} {at next given : ℕ} → given ≡ answers_given done.number done.place
-      → Put out mid 0 at (answer_lines answers' given)
-      → Put mid end at next (end_line done.number done.place done.compared done.differing)
-      → Put out end 0 next (program_text trace)
+  pub listed : {t u v : Text} {given : ℕ} → given ≡ answers_given done.number done.place → Puts t (answer_lines answers' given) u
+      → Puts u (end_line done.number done.place done.compared done.differing) v → Puts t (program_text trace) v
   unfolding program_text replay_text
-  listed e lines last = rw (← ran.answers, ← ran.tally) (put-more (rw e at lines) last)
+  listed e lines last = rw (← ran.answers, ← ran.tally) (more (rw e at lines) last)

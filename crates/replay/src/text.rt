@@ -1,9 +1,9 @@
-// The lines of a listing, put into a lent buffer, as much of them as there is room for.
+// The lines of a listing, put into a text, as much of them as there is room for.
 ghost use Rattle.std.specs.Prelude.{◌*◌, ◌<◌, ◌≤◌, ◌≡◌, [], ◌∷◌, ◌++◌, length};
-ghost use Rattle.console.specs.Text.{Put};
+ghost use Rattle.console.specs.Puts.{Puts};
 ghost use Rattle.replay.specs.Text.{hex_digit, hex_digits, answer_line, answer_lines};
 
-use console::text::{put_bytes, put_next, put_number};
+use console::text::Text;
 
 // A hexadecimal digit.
 #[tactic(auto, unfolding(crate::specs::Text::hex_digit))]
@@ -15,36 +15,32 @@ fn hex_digit(n: u8) -> u8
 }
 
 // A space, a byte in hexadecimal and the end of the line.
-fn put_hex(out: &mut [u8], at: usize, byte: u8) -> usize
-    ensures { Put out.old out.new at result (32 ∷ hex_digits byte ++ (10 ∷ [])) }
+fn put_hex(text: &mut Text, byte: u8)
+    ensures { Puts text.old (32 ∷ hex_digits byte ++ (10 ∷ [])) text.new }
 {
-    let text = [b' ', hex_digit(byte / 16), hex_digit(byte % 16), b'\n'];
-    put_bytes(out, at, &text)
+    text.bytes(&[b' ', hex_digit(byte / 16), hex_digit(byte % 16), b'\n']);
 }
 
 // The line of an answer.
-fn put_line(out: &mut [u8], at: usize, index: u64, kind: u8, byte: u8) -> usize
-    ensures { Put out.old out.new at result (answer_line index kind byte) }
+fn put_line(text: &mut Text, index: u64, kind: u8, byte: u8)
+    ensures { Puts text.old (answer_line index kind byte) text.new }
 {
-    let first = put_number(out, at, index);
-    let second = put_next(out, first, kind as u64);
-    put_hex(out, second, byte)
+    text.number(index);
+    text.next_number(kind as u64);
+    put_hex(text, byte);
 }
 
 // The lines of the answers from the first on, two bytes each.
-pub(crate) fn put_lines(out: &mut [u8], answers: &[u8], count: usize) -> usize
+pub(crate) fn put_lines(text: &mut Text, answers: &[u8], count: usize)
     requires { 2 * count ≤ length answers.now }
-    ensures { Put out.old out.new 0 result (answer_lines answers.now count) }
+    ensures { Puts text.old (answer_lines answers.now count) text.new }
 {
-    let mut at = 0;
     for index in 0..count {
-        at = put_line(
-            out,
-            at,
+        put_line(
+            text,
             index as u64,
             answers[2 * index],
             answers[2 * index + 1],
         );
     }
-    at
 }

@@ -13,7 +13,7 @@ use basics::refusal::Refusal;
 // What a cycle gives back of an accepted record beside the RAM: what it read; which of the 640 RAM bytes of both chips it
 // stored to, if any, by its index: 320 x chip + 80 x page + column, the chip by the record's number (a store of the byte
 // that stands there already is a store); and the chip's successor.
-#[derive(Clone, Copy)]
+#[derive(Clone, Copy, Debug, PartialEq, Eq)]
 pub struct Accepted {
     pub reading: Reading,
     pub stored: Option<usize>,

@@ -13,7 +13,8 @@ use basics::verdict::Refused;
 pub const ANSWER_BYTES: usize = 2;
 
 // What a run of records gives back beside what it was lent: the number and its place, how many reads were compared with
-// the trace and how many of these differ.
+// the trace and how many of these differ. The number is no `Refusal`: a stopped feed repeats any that its bytes hold, as C
+// gives them.
 #[derive(Clone, Copy, Debug, PartialEq, Eq)]
 pub struct Tally {
     pub number: u8,

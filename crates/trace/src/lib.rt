@@ -55,6 +55,7 @@ pub(crate) fn run(
     let mut differing: u64 = 0;
     let mut at = 0;
     let count = trace.len() / RECORD_BYTES;
+    // One call takes as many records as run together, so the loop moves on by what it gave.
     while at < count {
         let went = run_counting(
             chips,

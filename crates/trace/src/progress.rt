@@ -6,7 +6,8 @@ ghost use Rattle.trace.specs.Feed.{begun, stopped_at, so_far, progress_wrong, jo
 use sed1520::bus::RECORD_BYTES;
 use sed1520::tally::Tally;
 
-// Whether a feed takes parts, or is stopped with the number and the place that it repeats.
+// Whether a feed takes parts, or is stopped with the number and the place that it repeats. An `Option` would not say which
+// of the two states `None` is.
 #[derive(Clone, Copy, Debug, PartialEq, Eq)]
 pub enum Ending {
     Open,
@@ -14,7 +15,8 @@ pub enum Ending {
 }
 
 // What a feed holds beside its chips: how many bytes are kept over and which, the records taken since the opening, how
-// many reads were compared, how many of these differ, and the ending.
+// many reads were compared, how many of these differ, and the ending. The count and the three bytes stand as in C's bytes,
+// which hold any count: number 2 refuses those over 3.
 #[derive(Clone, Copy, Debug, PartialEq, Eq)]
 pub struct Progress {
     pub kept: u8,

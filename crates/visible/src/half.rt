@@ -94,6 +94,7 @@ pub(crate) fn watch_half(bus: Record, chip: &mut Chip, ram: &mut [u8]) -> Result
     requires { Fit chip.old ram.old }
     ensures { half_sight result chip.new ram.new ≡ half_sight_of bus chip.old ram.old }
 {
+    // The lines alone say what can change; what the record does is decided in the cycle.
     match bus.lines {
         3 => watch_write(bus, chip, ram),
         2 => watch_command(bus, chip, ram),

@@ -10,7 +10,7 @@ use sed1520::bus::Record;
 use sed1520::registers::Chip;
 
 // How many pixels of each half differ from before a record.
-#[derive(Clone, Copy)]
+#[derive(Clone, Copy, Debug, PartialEq, Eq)]
 pub(crate) struct Pixels {
     pub left: u32,
     pub right: u32,

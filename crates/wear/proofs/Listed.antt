@@ -13,10 +13,12 @@ use Rattle.panel.specs.Panel.{image_length, as_panel}
 use Rattle.trace.specs.Replay.{replay_outcome}
 use Rattle.trace.specs.Wear.{with_wear, replay_with_wear}
 use Rattle.trace.specs.declared.Replayed.{Replayed}
+use Rattle.console.specs.Puts.{Puts}
+use Rattle.console.specs.declared.text.Text.{Text}
 use Rattle.console.specs.Start.{start, blank_answers}
-use Rattle.console.specs.Text.{refused_before, end_line, Put}
+use Rattle.console.specs.Text.{refused_before, end_line}
 use Rattle.console.proofs.Digits.{number_bound, end-bound}
-use Rattle.console.proofs.Puts.{put-more}
+use Rattle.console.proofs.Puts.{more}
 use Rattle.wear.specs.Text.{count_at, next_count, page_line, chip_lines, sum_line, wear_lines, wear_text, program_text}
 
 page-bound : (wear : List ℕ) (chip page : ℕ) → length (page_line wear chip page) ≤ 1727
@@ -47,14 +49,14 @@ text-bound trace =
     (omega (arith, lines-bound a.number w.wear, end-bound a.number a.place a.compared a.differing))
 
 -- the lines of the wear that a replay on fresh chips over RAM all 0 left, then its end line
-pub listed : (trace : List ℕ) {ram' answers' wear' out mid end : List ℕ} {at next : ℕ} {left right : Chip} {done : Replayed}
+pub listed : (trace : List ℕ) {ram' answers' wear' : List ℕ} {left right : Chip} {done : Replayed} {t u v : Text}
     → left ≡ fresh → right ≡ fresh
     → with_wear (replay_outcome done ram' answers') wear'
     ≡ replay_with_wear (as_panel left right (replicate image_length 0)) trace blank_answers (replicate image_length 0)
-    → Put out mid 0 at (wear_lines done.tally.number wear')
-    → Put mid end at next (end_line done.tally.number done.tally.place done.tally.compared done.tally.differing)
-    → Put out end 0 next (program_text trace)
+    → Puts t (wear_lines done.tally.number wear') u
+    → Puts u (end_line done.tally.number done.tally.place done.tally.compared done.tally.differing) v
+    → Puts t (program_text trace) v
 unfolding program_text wear_text
 listed trace is-left is_right ends lines last =
     let same = rw (is-left, is_right) at ends in
-    rw (← same) (put-more lines last)
+    rw (← same) (more lines last)

@@ -5,33 +5,26 @@
 
 mod text;
 
-ghost use Rattle.std.specs.Prelude.{◌≤◌, ◌≡◌, length, replicate};
-ghost use Rattle.console.specs.Text.{Put};
+ghost use Rattle.std.specs.Prelude.{◌+◌, ◌≤◌, ◌≡◌, ◌++◌, length};
+ghost use Rattle.console.specs.Puts.{Puts, text_of};
 ghost use Rattle.wear.specs.Text.{program_text};
 
 use crate::text::put_wear;
-use console::input::read_input;
-use console::text::put_end;
-use console::{ANSWERS_BYTES, INPUT_BYTES};
+use console::ANSWERS_BYTES;
+use console::program::print_listing;
+use console::text::Text;
 use panel::chips::{Chips, IMAGE_BYTES};
 use sed1520::registers::Chip;
 use std::io::Print;
 
 // Enough for 8 lines of at most 1,727 bytes, the sum and the end line.
-type TextBytes = [u8; 13929];
+const TEXT_BYTES: usize = 13929;
 
-// Where the text is put.
-fn text_buffer() -> TextBytes
-    ensures { result ≡ replicate 13929 0 }
-{
-    [0; 13929]
-}
-
-// The listing of a trace's wear, at the front of the buffer; answers how many bytes it has.
-fn listing(trace: &[u8], out: &mut [u8]) -> usize
-    requires { 13929 ≤ length out.old }
-    ensures put { Put out.old out.new 0 result (program_text trace.now) }
-    ensures value { result ≡ length (program_text trace.now) }
+// The listing of a trace's wear, put into a text that has room for it.
+fn listing(trace: &[u8], text: &mut Text)
+    requires { text.old.len + 13929 ≤ length text.old.out.now }
+    ensures put { Puts text.old (program_text trace.now) text.new }
+    ensures whole { text_of text.new ≡ text_of text.old ++ program_text trace.now }
 {
     let mut ram = [0; IMAGE_BYTES];
     let mut answers = [0; ANSWERS_BYTES];
@@ -41,27 +34,12 @@ fn listing(trace: &[u8], out: &mut [u8]) -> usize
         right: Chip::fresh(),
     };
     let done = trace::replay(chips, &mut ram, trace, &mut answers, &mut wear).tally;
-    let lines = put_wear(out, &wear, done.number);
-    put_end(
-        out,
-        lines,
-        done.number,
-        done.place,
-        done.compared,
-        done.differing,
-    )
+    put_wear(text, &wear, done.number);
+    text.end_line(done.number, done.place, done.compared, done.differing);
 }
 
-// A read that fails prints nothing. The text goes out in one piece with the end line last, so a write that falls short
-// prints no whole end line.
 fn main(rt: HostRuntime) {
-    let mut trace = [0; INPUT_BYTES];
-    let Ok(count) = read_input(&mut rt.stdin(), &mut trace) else {
-        return;
-    };
-    let mut out = text_buffer();
-    let size = listing(&trace[..count], &mut out);
-    match rt.stdout().write_all(&out[..size]) {
+    match print_listing::<TEXT_BYTES, _, _, _>(&mut rt.stdin(), &mut rt.stdout(), listing) {
         Ok(()) | Err(_) => {}
     }
 }

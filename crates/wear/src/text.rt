@@ -1,11 +1,11 @@
-// The lines of the wear, put into a lent buffer, as much of them as there is room for.
+// The lines of the wear, put into a text, as much of them as there is room for.
 ghost use Rattle.std.specs.Prelude.{◌≡◌, length};
 ghost use Rattle.basics.specs.Counts.{total};
 ghost use Rattle.panel.specs.Panel.{image_length};
-ghost use Rattle.console.specs.Text.{Put};
+ghost use Rattle.console.specs.Puts.{Puts};
 ghost use Rattle.wear.specs.Text.{count_at, page_counts, page_line, chip_lines, sum_line, wear_lines};
 
-use console::text::{put_bytes, put_next, refused_before};
+use console::text::{Text, refused_before};
 use sed1520::memory::image_index;
 use sed1520::registers::Chip;
 
@@ -18,36 +18,32 @@ fn count_at(wear: &[u32], chip: u8, page: u8, column: u8) -> u32
 }
 
 // The counts of a chip's page, each after a space.
-fn put_counts(out: &mut [u8], at: usize, wear: &[u32], chip: u8, page: u8) -> usize
-    ensures { Put out.old out.new at result (page_counts wear.now chip page) }
+fn put_counts(text: &mut Text, wear: &[u32], chip: u8, page: u8)
+    ensures { Puts text.old (page_counts wear.now chip page) text.new }
 {
-    let mut next = at;
     for column in 0..Chip::COLUMN_STOP {
-        next = put_next(out, next, count_at(wear, chip, page, column) as u64);
+        text.next_number(count_at(wear, chip, page, column) as u64);
     }
-    next
 }
 
 // The line of a chip's page.
-fn put_page(out: &mut [u8], at: usize, wear: &[u32], chip: u8, page: u8) -> usize
-    ensures { Put out.old out.new at result (page_line wear.now chip page) }
+fn put_page(text: &mut Text, wear: &[u32], chip: u8, page: u8)
+    ensures { Puts text.old (page_line wear.now chip page) text.new }
 {
-    let word = put_bytes(out, at, b"wear");
-    let first = put_next(out, word, chip as u64);
-    let second = put_next(out, first, page as u64);
-    let counts = put_counts(out, second, wear, chip, page);
-    put_bytes(out, counts, b"\n")
+    text.bytes(b"wear");
+    text.next_number(chip as u64);
+    text.next_number(page as u64);
+    put_counts(text, wear, chip, page);
+    text.byte(b'\n');
 }
 
 // The lines of a chip's four pages.
-fn put_chip(out: &mut [u8], at: usize, wear: &[u32], chip: u8) -> usize
-    ensures { Put out.old out.new at result (chip_lines wear.now chip) }
+fn put_chip(text: &mut Text, wear: &[u32], chip: u8)
+    ensures { Puts text.old (chip_lines wear.now chip) text.new }
 {
-    let mut next = at;
     for page in 0..4 {
-        next = put_page(out, next, wear, chip, page);
+        put_page(text, wear, chip, page);
     }
-    next
 }
 
 // The sum of all counts.
@@ -59,24 +55,24 @@ fn sum_of(wear: &[u32]) -> u64
 }
 
 // The line of the sum.
-fn put_sum(out: &mut [u8], at: usize, wear: &[u32]) -> usize
+fn put_sum(text: &mut Text, wear: &[u32])
     requires { length wear.now ≡ image_length }
-    ensures { Put out.old out.new at result (sum_line wear.now) }
+    ensures { Puts text.old (sum_line wear.now) text.new }
 {
-    let word = put_bytes(out, at, b"sum");
-    let sum = put_next(out, word, sum_of(wear));
-    put_bytes(out, sum, b"\n")
+    text.bytes(b"sum");
+    text.next_number(sum_of(wear));
+    text.byte(b'\n');
 }
 
 // The lines of the wear that a replay left, by its number.
-pub(crate) fn put_wear(out: &mut [u8], wear: &[u32], number: u8) -> usize
+pub(crate) fn put_wear(text: &mut Text, wear: &[u32], number: u8)
     requires { length wear.now ≡ image_length }
-    ensures { Put out.old out.new 0 result (wear_lines number wear.now) }
+    ensures { Puts text.old (wear_lines number wear.now) text.new }
 {
     if refused_before(number) {
-        return 0;
+        return;
     }
-    let left = put_chip(out, 0, wear, 0);
-    let right = put_chip(out, left, wear, 1);
-    put_sum(out, right, wear)
+    put_chip(text, wear, 0);
+    put_chip(text, wear, 1);
+    put_sum(text, wear);
 }

@@ -4,8 +4,8 @@ use Rattle.wear.specs.Text.{page_line}
 use Rattle.wear.proofs.text.put_chip.Goals as goal
 
 pub loop-page-init : goal.loop-page-init
-loop-page-init c = no-piece (page_line c.args.wear.now c.args.chip) c.args.out.now c.args.at
+loop-page-init c = no-piece (page_line c.args.wear.now c.args.chip) c.args.text.now
 
 pub loop-page-preserved : goal.loop-page-preserved
 loop-page-preserved c =
-    one-piece-more (page_line c.args.wear.now c.args.chip) c.loop-page.page c.loop-page.invariant c.put_page-next.ensures
+    one-piece-more (page_line c.args.wear.now c.args.chip) c.loop-page.page c.loop-page.invariant c.put_page.ensures
