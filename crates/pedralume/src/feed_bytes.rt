@@ -1,5 +1,4 @@
 // A feed as the C side has it: 48 bytes, first the 24 of both chips, then 24 of what the feed holds beside its chips.
-// These are a slice with a length in each contract, and no array, as a chip's bytes are (sed1520/src/bytes_command.rt).
 ghost use Rattle.std.specs.Prelude.{◌+◌, ◌≤◌, ◌≡◌, length};
 ghost use Rattle.pedralume.specs.FeedBytes.{progress_length, word_at, put_word, marks_right, ending_in, progress_in};
 ghost use Rattle.pedralume.specs.FeedBytes.{stopped_byte, number_byte, stop_place, progress_bytes};

@@ -1,5 +1,4 @@
-// A command written to the 12 bytes of a chip. They are a slice with a length in each contract, and no array: std promises
-// nothing of the bytes of an array lent from a slice.
+// A command written to the 12 bytes of a chip.
 ghost use Rattle.std.specs.Prelude.{◌≡◌, length};
 ghost use Rattle.basics.specs.Refusals.{numbered};
 ghost use Rattle.sed1520.specs.BytesRun.{executed_bytes, command_bytes};

@@ -36,7 +36,7 @@ fn carried(trace: &[u8], n: usize, lines: u8, chip: u8) -> bool
 }
 
 // The data writes to a chip that a trace begins with; the trace begins with at least one. The loop stops at the first other
-// record, and counts by hand: the contract of chunks that can be written says nothing of what stands in them.
+// record.
 fn write_run(chip: u8, bytes: &mut [u8], ram: &mut [u8], trace: &[u8], answers: &mut [u8]) -> Ran
     requires chip_bound { chip < 2 }
     requires bytes_len { length bytes.old ≡ chip_length }
@@ -71,7 +71,7 @@ fn write_run(chip: u8, bytes: &mut [u8], ram: &mut [u8], trace: &[u8], answers: 
     Ran { tally, moved }
 }
 
-// The data reads of a chip that a trace begins with, by a loop of the same form.
+// The data reads of a chip that a trace begins with.
 fn read_run(chip: u8, bytes: &mut [u8], ram: &[u8], trace: &[u8], answers: &mut [u8]) -> Tally
     requires chip_bound { chip < 2 }
     requires bytes_len { length bytes.old ≡ chip_length }
