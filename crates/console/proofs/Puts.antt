@@ -1,14 +1,14 @@
 -- Bytes put one after the other into a text, as many as there is room for.
-use Prim.Native.Nat.{ℕ, suc, ◌+◌, ◌≤◌}
+use Prim.Native.Nat.{ℕ, suc, ◌+◌, ◌<◌, ◌≤◌}
 use native.Mathlib.Omega.{arith}
-use mathlib.Core.Path.{◌≡◌, refl, sym, ◌∙◌}
+use mathlib.Core.Path.{◌≡◌, refl, sym, ap, ◌∙◌}
 use mathlib.Core.Logic.{⊎_elim}
 use mathlib.Core.List.{List, [], ◌∷◌, ◌++◌}
 use lib.Dec.{leb}
-use lib.ListN.{length, set, take, length-append}
+use lib.ListN.{length, set, take, drop, length-append}
 use lib.Seq.{paste, sets, set_out, length-sets}
 use borrow.Author.Tests.{leb-true, leb-false}
-use Rattle.std.proofs.lemmas.List.{take_all}
+use Rattle.std.proofs.lemmas.List.{take_all, take-append-drop, length-take-le}
 use Rattle.std.proofs.lemmas.List.Edits.{sets-eq, take-paste}
 use Rattle.basics.specs.Lists.{joined}
 use Rattle.basics.proofs.Lists.{joined-next}
@@ -33,7 +33,11 @@ sets-past (x ∷ xs) l i h = rw (set_out l i x h) (sets-past xs l (suc i) (omega
 none_more : (xs ys l : List ℕ) (at i : ℕ) → length l ≤ i → sets (sets l at xs) i ys ≡ sets l at xs
 none_more xs ys l at i h = sets-past ys (sets l at xs) i (omega (arith, length-sets l at xs))
 
-put-more : {l m n : List ℕ} {at mid end : ℕ} {xs ys : List ℕ} → Put l m at mid xs → Put m n mid end ys → Put l n at end (xs ++ ys)
+-- past the end nothing is put, and the place stays
+pub put_past : (l xs : List ℕ) (at : ℕ) → length l < at → Put l l at at xs
+put_past l xs at h = record { text = sym (sets-past xs l at (omega arith)); next_place = omega arith }
+
+pub put-more : {l m n : List ℕ} {at mid end : ℕ} {xs ys : List ℕ} → Put l m at mid xs → Put m n mid end ys → Put l n at end (xs ++ ys)
 put-more {l} {m} {n} {at} {mid} {end} {xs} {ys} p q =
     let same : length m ≡ length l = rw p.text (length-sets l at xs) in
     record {
@@ -70,3 +74,29 @@ whole {t} {u} {xs} p h =
     let front : take (t.len + length xs) (paste t.out.now t.len xs (length xs)) ≡ text_of t ++ take (length xs) xs =
     take-paste t.out.now t.len xs (length xs) t.within (omega arith) in
     rw (end, p.put.text, sets-eq xs t.out.now t.len h) (rw all at front)
+
+-- what an empty text holds of what is put: as much as the buffer has room for
+pub from_empty : {t u : Text} {xs : List ℕ} → t.len ≡ 0 → Puts t xs u → text_of u ≡ take (length t.out.now) xs
+from_empty {t} {u} {xs} empty p =
+    let out = t.out.now in
+    let none_yet : text_of t ≡ [] = rw empty in
+    ⊎_elim
+    (λ f. let fits = leb-true (length xs) (length out) f in
+    whole p (omega arith) ∙ rw (none_yet, take_all (length out) xs fits))
+    (λ f. let over = leb-false (length xs) (length out) f in
+    let front = take (length out) xs in
+    let rest = drop (length out) xs in
+    let count : length front ≡ length out = length-take-le (length out) xs (omega arith) in
+    let cut : Puts t front u =
+    record {
+      same_buffer = p.same_buffer;
+      put =
+          record {
+            text =
+                p.put.text ∙ ap (sets out t.len) (sym (take-append-drop (length out) xs)) ∙ sets-append front rest out t.len
+                ∙ none_more front rest out t.len (t.len + length front) (omega arith);
+            next_place = omega (arith, p.put.next_place, count);
+          };
+    } in
+    whole cut (omega arith) ∙ rw none_yet)
+    (tested (leb (length xs) (length out)))

@@ -4,20 +4,30 @@
 
 mod text;
 
-ghost use Rattle.std.specs.Prelude.{◌+◌, ◌≤◌, ◌≡◌, ◌++◌, length};
+ghost use Rattle.std.specs.Prelude.{◌+◌, ◌≤◌, ◌≡◌, ◌++◌, length, replicate, OnOk};
+ghost use Rattle.std.specs.Io.KnownBytes.{Appends};
 ghost use Rattle.console.specs.Puts.{Puts, text_of};
 ghost use Rattle.replay.specs.Text.{answers_given, program_text};
 
 use crate::text::put_lines;
 use console::ANSWERS_BYTES;
-use console::program::print_listing;
+use console::program::{Listing, print_listing};
 use console::text::{Text, refused_before};
 use panel::chips::{Chips, IMAGE_BYTES, chips_bytes};
 use sed1520::registers::Chip;
-use std::io::Print;
+use std::io::{self, Print, Read, Write};
 
 // Enough for 16,384 lines of at most 45 bytes and the end line.
 const TEXT_BYTES: usize = 737368;
+
+type TextBytes = [u8; TEXT_BYTES];
+
+// Where the text is put. In a function of its own, since no proof is to compute the list of its zeros.
+fn text_buffer() -> TextBytes
+    ensures { result ≡ replicate 737368 0 }
+{
+    [0; TEXT_BYTES]
+}
 
 // How many answers a replay gave.
 fn given_in(number: u8, place: u64) -> usize
@@ -29,11 +39,10 @@ fn given_in(number: u8, place: u64) -> usize
     place as usize
 }
 
-// The listing of a trace, put into a text that has room for it.
+// The listing of a trace, put into a text: all of it where there is room for TEXT_BYTES.
 fn listing(trace: &[u8], text: &mut Text)
-    requires { text.old.len + 737368 ≤ length text.old.out.now }
     ensures put { Puts text.old (program_text trace.now) text.new }
-    ensures whole { text_of text.new ≡ text_of text.old ++ program_text trace.now }
+    ensures whole { text.old.len + 737368 ≤ length text.old.out.now → text_of text.new ≡ text_of text.old ++ program_text trace.now }
 {
     let mut chips = chips_bytes(Chips {
         left: Chip::fresh(),
@@ -46,8 +55,26 @@ fn listing(trace: &[u8], text: &mut Text)
     text.end_line(done.number, done.place, done.compared, done.differing);
 }
 
+// What this program prints of a trace.
+struct AnswersListing;
+
+impl Listing for AnswersListing {
+    ghost listed = { program_text };
+
+    fn put(trace: &[u8], text: &mut Text<'_>) {
+        listing(trace, text);
+    }
+}
+
+// The listing of the input, printed whole.
+fn print<R: Read, W: Write>(reader: &mut R, writer: &mut W) -> io::Result<()>
+    ensures { OnOk result ((trace : _) × Appends (W.contents writer.old) (W.contents writer.new) (program_text trace)) }
+{
+    print_listing::<AnswersListing, R, W>(reader, writer, &mut text_buffer())
+}
+
 fn main(rt: HostRuntime) {
-    match print_listing::<TEXT_BYTES, _, _, _>(&mut rt.stdin(), &mut rt.stdout(), listing) {
+    match print(&mut rt.stdin(), &mut rt.stdout()) {
         Ok(()) | Err(_) => {}
     }
 }

@@ -15,5 +15,5 @@ returns c =
     let text = listed ran c.given_in.ensures c.put_lines.ensures c.end_line.ensures in
     record {
       put = text;
-      whole = whole text (omega (arith, text-bound c.args.trace.now, c.requires));
+      whole = λ room. whole text (omega (arith, text-bound c.args.trace.now, room));
     }

@@ -9,5 +9,5 @@ returns c =
     let text = listed c.args.trace.now c.fresh.ensures c.fresh-2.ensures c.replay.ensures c.put_wear.ensures c.end_line.ensures in
     record {
       put = text;
-      whole = whole text (omega (arith, text-bound c.args.trace.now, c.requires));
+      whole = λ room. whole text (omega (arith, text-bound c.args.trace.now, room));
     }
