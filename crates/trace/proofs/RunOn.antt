@@ -93,7 +93,7 @@ module _ {chips₀ ram₀ trace buffer wear₀ chips ram answers wear : List ℕ
   taken : length (take n rs) ≡ n
   taken = length-take-le n rs (omega (arith, all, on.within))
 
-  so-few : Few n n compared differing
+  pub so-few : Few n n compared differing
   so-few = rw taken at (answered-few (panel_in chips₀ ram₀) (take n rs) buffer (ap (λ (i : InPlace Tally). i.answer) on.so_far))
 
   pub buffered : length answers ≡ length buffer
