@@ -38,7 +38,7 @@ sizes-right trace ram e =
     (ltb-false 65536 trace short.0, no_other ram 640 (neither (not (eqb ram 640)) false short.1).0)
 
 -- a buffer without room stays empty
-nothing_put : (entries : List Entry) → put_entries entries [] ≡ []
+pub nothing_put : (entries : List Entry) → put_entries entries [] ≡ []
 unfolding flat_map
 nothing_put entries = refl
 

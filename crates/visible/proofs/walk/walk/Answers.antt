@@ -21,20 +21,22 @@ returns-in_err-seen c =
 pub list_entry-listed-requires-clause-left_lt_pair_limit : goal.list_entry-listed-requires-clause-left_lt_pair_limit
 list_entry-listed-requires-clause-left_lt_pair_limit c =
     let step = c.in-Some.ensures.steps in
-    left-few c.loop-at.invariant.2 _ _ step.0.1.0 step.0.1.1 c.from-bus.ensures
-    (rw (was-ok c.watch.result c.in-Some.at c.in_ok-seen.ensures.cases) at c.watch.ensures)
+    let left_seen = was-ok c.watch.result c.in-Some.at c.in_ok-seen.ensures.cases in
+    left-few c.loop-at.invariant.2 _ _ step.0.1.0 step.0.1.1 c.from-bus.ensures (rw left_seen at c.watch.ensures)
 
 pub list_entry-listed-requires-clause-right_lt_pair_limit : goal.list_entry-listed-requires-clause-right_lt_pair_limit
 list_entry-listed-requires-clause-right_lt_pair_limit c =
     let step = c.in-Some.ensures.steps in
-    right-few c.loop-at.invariant.2 _ _ step.0.1.0 step.0.1.1 c.from-bus.ensures
-    (rw (was-ok c.watch.result c.in-Some.at c.in_ok-seen.ensures.cases) at c.watch.ensures)
+    let right_seen = was-ok c.watch.result c.in-Some.at c.in_ok-seen.ensures.cases in
+    right-few c.loop-at.invariant.2 _ _ step.0.1.0 step.0.1.1 c.from-bus.ensures (rw right_seen at c.watch.ensures)
 
+-- a record past which the walk goes on was accepted
 pub loop-at-preserved : goal.loop-at-preserved
 loop-at-preserved c =
     let step = c.in-Some.ensures.steps in
     let upto = rw (← step.1) at c.loop-at.invariant.2 in
-    let seen = rw (was-ok c.watch.result c.in-Some.at c.in_ok-seen.ensures.cases) at c.watch.ensures in (
+    let accepted = was-ok c.watch.result c.in-Some.at c.in_ok-seen.ensures.cases in
+    let seen = rw accepted at c.watch.ensures in (
       search rules,
       search rules,
       rw (step.2, ← step.1, step.0.0)
