@@ -91,7 +91,7 @@ impl Text<'_> {
 }
 
 // Some bytes put at any place of a buffer, none where the place is past its end. Each `put_` answers the place past what it
-// put.
+// put: they are for callers that hold a place of their own, which a `Text` can't say.
 #[tactic(auto, using(crate::proofs::Puts::put_past))]
 pub fn put_bytes(out: &mut [u8], at: usize, bytes: &[u8]) -> usize
     ensures { Put out.old out.new at result bytes.now }
