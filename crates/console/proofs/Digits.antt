@@ -1,11 +1,13 @@
 -- The digits of a number, and the lengths of what is made of them.
-use Prim.Native.Nat.{ℕ, zero, suc, ◌+◌, ◌-◌, ◌/◌, ◌%◌, ◌<◌, ◌≤◌}
+use Prim.Native.Nat.{ℕ, zero, suc, ◌+◌, ◌-◌, ◌/◌, ◌%◌, ◌^◌, ◌<◌, ◌≤◌}
 use native.Mathlib.Omega.{arith}
 use mathlib.Core.Path.{◌≡◌}
 use mathlib.Core.List.{List, [], ◌∷◌, ◌++◌}
 use lib.Dec.{ltb}
 use lib.ListN.{length, length-append}
 use borrow.Author.Tests.{lt-ltb, le-ltb}
+use Rattle.std.specs.Fmt as printed
+use Rattle.std.proofs.lemmas.Fmt.{AppendsLastDigit, decimal_from_appends, length-decimal-le}
 use Rattle.basics.proofs.Tests.{when}
 use Rattle.console.specs.Text.{decimal, decimal_digits, end_line}
 
@@ -39,3 +41,11 @@ pub more-digits : (most n : ℕ) → 0 < most → 10 ≤ n → decimal most n �
 unfolding decimal
 more-digits zero n h l = absurd (omega arith)
 more-digits (suc most) n h l = let e : suc most - 1 ≡ most = omega arith in rw (le-ltb n 10 l, e)
+
+appends : AppendsLastDigit decimal
+unfolding decimal
+appends = record { one = λ k n h. rw (lt-ltb n 10 h); more = λ k n h. rw (le-ltb n 10 h) }
+
+-- the digits are what `{}` prints
+pub as_printed : (n : ℕ) → n < 2 ^ 64 → decimal_digits n ≡ printed.decimal n
+as_printed n h = decimal_from_appends decimal appends 20 n h (length-decimal-le 20 n (omega arith) (omega arith) h)

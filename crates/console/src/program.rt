@@ -9,7 +9,8 @@ use crate::input::read_input;
 use crate::text::Text;
 use std::io::{self, Read, Write};
 
-// What a program prints of a trace.
+// What a program prints of a trace. A closure may be called only where that is proved, which no public function here asks of
+// its caller: who has one calls it on an empty `Text`, between `read_input` and `write_all`.
 pub trait Listing {
     // its text, by the bytes of the trace
     ghost listed: { List ℕ → List ℕ };
